@@ -1,2 +1,4 @@
 pub mod Fault
+pub mod Laws
+pub mod Meanings
 pub mod Range

@@ -1,4 +1,4 @@
-ghost use Rattle.units.specs.One.{one};
+ghost use Rattle.capital.specs.Meanings.{anyRuinPrice};
 use crate::Penalty;
 use units::Deficit;
 use units::ONE;
@@ -9,7 +9,7 @@ use units::Weight;
 pub struct AnyRuin;
 
 pub impl Penalty for AnyRuin as AnyRuinPenalty {
-    ghost priced = { λ _ _. one };
+    ghost priced = { λ _ deficit. anyRuinPrice deficit };
 
     fn price(&self, deficit: Deficit) -> Weight {
         let _ = deficit;

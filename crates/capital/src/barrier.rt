@@ -1,5 +1,6 @@
-ghost use Prim.Native.Nat.{_≤_, min};
+ghost use Prim.Native.Nat.{_≤_};
 ghost use mathlib.Core.Path.{_≡_};
+ghost use Rattle.capital.specs.Meanings.{barrierLevel};
 ghost use Rattle.capital.specs.Range.{barrierFault};
 ghost use Rattle.std.specs.Results.{mapped};
 ghost use Rattle.units.specs.Checks.{answerUnless};
@@ -28,7 +29,7 @@ impl Barrier {
 }
 
 pub impl CapitalRule for Barrier as BarrierRule {
-    ghost carried = { λ b s. min s (b .level .0) };
+    ghost carried = { λ barrier surplus. barrierLevel (barrier .level .0) surplus };
 
     fn carry(&self, surplus: PositiveSurplus) -> Level {
         Level(surplus.value().min(self.level.0))

@@ -1,11 +1,9 @@
 ghost use Prim.Native.Nat.{_≤_};
-ghost use lib.Dec.{ltb};
-ghost use mathlib.Core.Bool.{cond};
 ghost use mathlib.Core.Path.{_≡_};
+ghost use Rattle.capital.specs.Meanings.{belowPrice};
 ghost use Rattle.capital.specs.Range.{belowFault};
 ghost use Rattle.std.specs.Results.{mapped};
 ghost use Rattle.units.specs.Checks.{answerUnless};
-ghost use Rattle.units.specs.One.{one};
 use crate::CapitalFault;
 use crate::Penalty;
 use units::Deficit;
@@ -32,7 +30,7 @@ impl Below {
 }
 
 pub impl Penalty for Below as BelowPenalty {
-    ghost priced = { λ b d. cond (ltb d (b .y)) one 0 };
+    ghost priced = { λ below deficit. belowPrice (below .y) deficit };
 
     fn price(&self, deficit: Deficit) -> Weight {
         if deficit.value() < self.y {

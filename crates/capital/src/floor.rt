@@ -1,5 +1,6 @@
-ghost use Prim.Native.Nat.{_≤_, max};
+ghost use Prim.Native.Nat.{_≤_};
 ghost use mathlib.Core.Path.{_≡_};
+ghost use Rattle.capital.specs.Meanings.{floorLevel};
 ghost use Rattle.capital.specs.Range.{floorFault};
 ghost use Rattle.std.specs.Results.{mapped};
 ghost use Rattle.units.specs.Checks.{answerUnless};
@@ -28,7 +29,7 @@ impl Floor {
 }
 
 pub impl CapitalRule for Floor as FloorRule {
-    ghost carried = { λ f s. max s (f .level .0) };
+    ghost carried = { λ floor surplus. floorLevel (floor .level .0) surplus };
 
     fn carry(&self, surplus: PositiveSurplus) -> Level {
         Level(surplus.value().max(self.level.0))

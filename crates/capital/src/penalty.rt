@@ -1,6 +1,6 @@
-ghost use Prim.Native.Nat.{ℕ, _≤_};
+ghost use Prim.Native.Nat.{ℕ};
 ghost use mathlib.Core.Path.{_≡_};
-ghost use Rattle.units.specs.One.{one};
+ghost use Rattle.capital.specs.Laws.{Bounded};
 use units::Deficit;
 use units::Weight;
 
@@ -8,7 +8,7 @@ use units::Weight;
 pub trait Penalty {
     ghost priced: { Self → ℕ → ℕ };
 
-    law bounded: { (penalty : Self) (d : ℕ) → d ≤ 4095 → priced penalty d ≤ one };
+    law bounded: { (penalty : Self) → Bounded (priced penalty) };
 
     fn price(&self, deficit: Deficit) -> Weight
         ensures { λ r. ⌜ r .0 ≡ priced (now (self .entry)) (deficit .value) ⌝ };

@@ -1,3 +1,4 @@
+ghost use Rattle.capital.specs.Meanings.{plainLevel};
 use crate::CapitalRule;
 use units::Level;
 use units::PositiveSurplus;
@@ -7,7 +8,7 @@ use units::PositiveSurplus;
 pub struct Plain;
 
 pub impl CapitalRule for Plain as PlainRule {
-    ghost carried = { λ _ s. s };
+    ghost carried = { λ _ surplus. plainLevel surplus };
 
     fn carry(&self, surplus: PositiveSurplus) -> Level {
         Level(surplus.value())

@@ -1,5 +1,6 @@
-ghost use Prim.Native.Nat.{ℕ, _≤_};
+ghost use Prim.Native.Nat.{ℕ};
 ghost use mathlib.Core.Path.{_≡_};
+ghost use Rattle.capital.specs.Laws.{Within, Rising};
 use units::Level;
 use units::PositiveSurplus;
 
@@ -7,9 +8,9 @@ use units::PositiveSurplus;
 pub trait CapitalRule {
     ghost carried: { Self → ℕ → ℕ };
 
-    law within: { (rule : Self) (s : ℕ) → 1 ≤ s → s ≤ 8192 → (1 ≤ carried rule s) × (carried rule s ≤ 8192) };
+    law within: { (rule : Self) → Within (carried rule) };
 
-    law rising: { (rule : Self) (s t : ℕ) → 1 ≤ s → s ≤ t → t ≤ 8192 → carried rule s ≤ carried rule t };
+    law rising: { (rule : Self) → Rising (carried rule) };
 
     fn carry(&self, surplus: PositiveSurplus) -> Level
         ensures { λ r. ⌜ r .0 ≡ carried (now (self .entry)) (surplus .value) ⌝ };

@@ -1,5 +1,6 @@
-ghost use Prim.Native.Nat.{_-_, _*_, _^_, _≤_, min};
+ghost use Prim.Native.Nat.{_≤_};
 ghost use mathlib.Core.Path.{_≡_};
+ghost use Rattle.capital.specs.Meanings.{scaledPrice};
 ghost use Rattle.capital.specs.Range.{scaledFault};
 ghost use Rattle.std.specs.Results.{mapped};
 ghost use Rattle.units.specs.Checks.{answerUnless};
@@ -27,7 +28,7 @@ impl Scaled {
 }
 
 pub impl Penalty for Scaled as ScaledPenalty {
-    ghost priced = { λ s d. min d (2 ^ s .m) * 2 ^ (30 - s .m) };
+    ghost priced = { λ scaled deficit. scaledPrice (scaled .m) deficit };
 
     fn price(&self, deficit: Deficit) -> Weight {
         let full = 1u32 << self.m;

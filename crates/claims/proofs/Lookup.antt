@@ -5,12 +5,11 @@ use lib.ListN.{length, take, drop, replicate}
 use mathlib.Core.List.{List, [], _∷_, _++_}
 use mathlib.Core.Path.{_≡_, refl, sym, ap, _∙_}
 use Rattle.claims.specs.Law.{Lawful, total}
-use Rattle.claims.specs.LawfulLists.{length-single, length-retained}
+use Rattle.claims.specs.LawfulLists.{length-single}
 use Rattle.claims.specs.Retained.{joined, retainedWeights}
 use Rattle.claims.specs.SingleSize.{singleWeights}
 use Rattle.std.proofs.shelf.Maps.{nth-past}
 use Rattle.std.proofs.shelf.Sums.{sumBy-cons, sumBy-take-drop}
-use Rattle.std.specs.declared.option.Option.{Option}
 use Rattle.std.specs.declared.option.Option.the-variants.{Some, None}
 use Rattle.std.specs.shelf.Maps.{nth}
 use Rattle.units.specs.One.{one}
@@ -61,7 +60,9 @@ nth-below (suc limit) i [] h = refl
 nth-below (suc limit) zero (weight ∷ later) h = refl
 nth-below (suc limit) (suc i) (weight ∷ later) h = nth-below limit i later (omega arith)
 
-nth-limit : (limit : ℕ) (weights : List Weight) → limit < length weights → Some (weight-of (total (drop limit weights))) ≡ nth (take limit weights ++ joined (drop limit weights)) limit
+nth-limit :
+    (limit : ℕ) (weights : List Weight) → limit < length weights
+    → Some (weight-of (total (drop limit weights))) ≡ nth (take limit weights ++ joined (drop limit weights)) limit
 nth-limit limit [] h = absurd (omega arith)
 nth-limit zero (weight ∷ later) h = refl
 nth-limit (suc limit) (weight ∷ later) h = nth-limit limit later (omega arith)
@@ -70,7 +71,9 @@ module _ (limit amount : Amount) (weights : List Weight) where
   pub retained-below : amount .0 < limit .0 → nth weights (amount .0) ≡ nth (retainedWeights limit weights) (amount .0)
   retained-below h = nth-below (limit .0) (amount .0) weights h
 
-  pub retained-at : (weight : Weight) → weight .0 ≡ total (drop (amount .0) weights) → amount .0 ≡ limit .0 → limit .0 < length weights → Some weight ≡ nth (retainedWeights limit weights) (amount .0)
+  pub retained-at :
+      (weight : Weight) → weight .0 ≡ total (drop (amount .0) weights) → amount .0 ≡ limit .0 → limit .0 < length weights
+      → Some weight ≡ nth (retainedWeights limit weights) (amount .0)
   retained-at weight tail same within =
       let number : weight .0 ≡ total (drop (limit .0) weights) = tail ∙ ap (λ n. total (drop n weights)) same in
       ap (λ n. Some (weight-of n)) number ∙ (nth-limit (limit .0) weights within ∙ ap (nth (retainedWeights limit weights)) (sym same))
@@ -79,7 +82,9 @@ module _ (limit amount : Amount) (weights : List Weight) where
   retained-past past = sym (nth-past (retainedWeights limit weights) (amount .0) past)
 
 -- one more weight of a tail
-pub tail-more : (weights : List Weight) (i : ℕ) (weight : Weight) → Some weight ≡ nth weights i → (i < length weights) × (total (drop i weights) ≡ weight .0 + total (drop (i + 1) weights))
+pub tail-more :
+    (weights : List Weight) (i : ℕ) (weight : Weight) → Some weight ≡ nth weights i
+    → (i < length weights) × (total (drop i weights) ≡ weight .0 + total (drop (i + 1) weights))
 tail-more [] i weight h = let z : _≡_ {A = ℕ} 0 1 = cc in absurd (omega arith)
 tail-more (first ∷ later) zero weight h =
     let same : weight ≡ first = cc in

@@ -4,11 +4,9 @@ use lib.ListN.{length, getD}
 use mathlib.Core.List.{List}
 use mathlib.Core.Path.{_≡_, refl, sym, ap, _∙_}
 use Rattle.roll.specs.Roll.{readAnswer}
-use Rattle.roll.specs.declared.fault.RollFault.{RollFault}
 use Rattle.roll.specs.declared.fault.RollFault.the-variants.{NotFilled}
 use Rattle.std.proofs.shelf.Maps.{nth-read, nth-past}
 use Rattle.std.specs.Options.{okOr}
-use Rattle.std.specs.declared.result.Result.{Result}
 use Rattle.std.specs.declared.result.Result.the-variants.{Ok, Err}
 
 module _ {A : Type 0} (seen items : List A) (place : ℕ) (same : seen ≡ items) where

@@ -1,7 +1,6 @@
 ghost use Prim.Native.Nat.{_≤_};
 ghost use denote.Ref.{now as held};
 ghost use lib.ListN.{length};
-ghost use mathlib.Core.List.{[], _∷_};
 ghost use mathlib.Core.Path.{_≡_};
 ghost use Rattle.claims.specs.Law.{total};
 ghost use Rattle.claims.specs.LawfulLists.{tableLawful};

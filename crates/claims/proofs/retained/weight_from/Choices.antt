@@ -1,4 +1,4 @@
-use Prim.Native.Nat.{_+_, _-_, _≤_}
+use Prim.Native.Nat.{_+_, _-_}
 use lib.ListN.{length, drop}
 use mathlib.Core.Path.{_≡_}
 use Rattle.claims.proofs.retained.weight_from.Given as given
