@@ -1,11 +1,16 @@
 // Walks a feed from standard input, and writes what it found.
 ghost use Rattle.feed.specs.Walk.{walkOf};
+ghost use Rattle.soundings.specs.Output.{outputOf};
 ghost use Rattle.soundings.specs.Walked.{Walked};
+ghost use Rattle.std.specs.Of.String.{string-bytes};
+ghost use Rattle.std.specs.Vec.{made};
+ghost use mathlib.Core.Path.{_≡_};
 use feed::FeedFault;
 use feed::Found;
 use feed::Reader;
 use report::end_line;
 use report::refusal_line;
+use std::alloc::AllocError;
 use std::alloc::Global;
 use std::io;
 use std::io::Read;
@@ -35,12 +40,27 @@ fn walk(reader: &mut Reader<'_>) -> Option<(FeedFault, usize)>
     }
 }
 
+// All that the program writes: the fault, if one stopped the walk, and how many whole records there were.
+fn output(
+    heap: Global,
+    stop: Option<(FeedFault, usize)>,
+    count: usize,
+) -> Result<String, AllocError>
+    ensures { λ r. ⌜ made r (λ text. string-bytes text ≡ outputOf stop count) ⌝ }
+{
+    let Some((fault, offset)) = stop else {
+        return end_line(heap, count);
+    };
+    let mut text = refusal_line(heap, fault.number(), offset)?;
+    let end = end_line(heap, count)?;
+    text.push_str(end.as_str())?;
+    Ok(text)
+}
+
 fn main(rt: LibcRuntime) -> io::Result<()> {
     let heap = rt.alloc();
     let bytes = read_feed(heap, rt.stdin())?;
     let mut reader = Reader::new(bytes.as_slice());
-    if let Some((fault, offset)) = walk(&mut reader) {
-        rt.print(refusal_line(heap, fault.number(), offset)?)?;
-    }
-    rt.print(end_line(heap, reader.whole())?)
+    let stop = walk(&mut reader);
+    rt.print(output(heap, stop, reader.whole())?)
 }
