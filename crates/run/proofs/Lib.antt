@@ -1,0 +1,12 @@
+pub mod Bounds
+pub mod Costing
+pub mod Costs
+pub mod ExactValues
+pub mod Faith
+pub mod Gathering
+pub mod Histories
+pub mod Paths
+pub mod Recursion
+pub mod Rows
+pub mod Sums
+pub mod Weighing

@@ -1,0 +1,9 @@
+pub mod Advance
+pub mod Calls
+pub mod Exact
+pub mod Fault
+pub mod Figures
+pub mod Gathered
+pub mod History
+pub mod Period
+pub mod Views
