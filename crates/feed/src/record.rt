@@ -35,7 +35,7 @@ pub enum Record {
     Scaled(u8),
     // a: allowance
     Allowance(Weight),
-    // o: length of the board
+    // o: length of the row
     Open(u16),
     // t
     Advance,

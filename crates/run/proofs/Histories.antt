@@ -13,7 +13,7 @@ use Rattle.run.specs.Calls.{Kept, Held, Call, opens, advances, asks, fresh, af
 use Rattle.run.specs.Calls.{openFault, opened, advanceFault, advanced, askAnswer}
 use Rattle.run.specs.Exact.{exactValue, staysOn}
 use Rattle.run.specs.History.{Proper, LeadTo, begins, then, Ledger, blank, holds, addable, noted, ledgerOf}
-use Rattle.run.specs.History.{knownWith, rowWith, droppedBy, ledgerPair, ledgerAnswer, Encloses, Bounded, Faithful}
+use Rattle.run.specs.History.{knownWith, rowWith, droppedBy, ledgerPair, ledgerAnswer, Encloses, PairEncloses, Faithful}
 use Rattle.run.specs.Period.{Period, Meaningful, dropped}
 use Rattle.run.specs.declared.answer.Answer.{Answer}
 use Rattle.run.specs.declared.fault.RunFault.{RunFault}
@@ -293,7 +293,7 @@ answered short past false answer other e f same = rw (e, f)
 -- the ledger's answer is bounded if its pair encloses wherever the path from its level stays
 bounded-by : (long : ℕ) (periods : List Period) (level : ℕ) (stays : Bool) (answer : Answer)
     → (stays ≡ true → Encloses periods level (answer .pair))
-    → Bounded (holds long periods) level (cond stays (Ok answer) (Err LevelUnknown))
+    → PairEncloses (holds long periods) level (cond stays (Ok answer) (Err LevelUnknown))
 bounded-by long periods level true answer encloses = encloses refl
 bounded-by long periods level false answer encloses = tt
 
@@ -330,13 +330,13 @@ module _ (level long : ℕ) (periods : List Period) (board spare : List Pair)
         width = enclosing .width periods (stands .meaningful) level;
       })
 
-  ledger-bounded : Enclosing → Bounded (holds long periods) level (ledgerAnswer (holds long periods) level)
+  ledger-bounded : Enclosing → PairEncloses (holds long periods) level (ledgerAnswer (holds long periods) level)
   ledger-bounded enclosing = bounded-by long periods level (staysOn long periods level) _ (row-encloses enclosing)
 
 faithful-from : (ledger : Ledger) (level : ℕ) (answer : Result Answer RunFault) → answer ≡ ledgerAnswer ledger level
-    → Bounded ledger level (ledgerAnswer ledger level) → Faithful ledger level answer
+    → PairEncloses ledger level (ledgerAnswer ledger level) → Faithful ledger level answer
 faithful-from ledger level answer same bounded =
-    record { same = same; bounded = subst⁻¹ (Bounded ledger level) same bounded }
+    record { same = same; bounded = subst⁻¹ (PairEncloses ledger level) same bounded }
 
 held-faithful : Enclosing → (ledger : Ledger) (held : Held) → Follows ledger held → (level : ℕ)
     → Faithful ledger level (askAnswer level held)

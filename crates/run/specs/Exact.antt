@@ -23,7 +23,7 @@ abbrev pub allSequences : List Period → List (List ℕ)
 allSequences [] = [] ∷ []
 allSequences (period ∷ later) = inFront (counting 0 (length (period .weights))) (allSequences later)
 
--- the product of a sequence's weights
+-- the product of a sequence's weights; no sequence of `allSequences` is shorter than the periods
 abbrev pub weightOf : List Period → List ℕ → ℕ
 weightOf [] sequence = 1
 weightOf (period ∷ later) [] = 1

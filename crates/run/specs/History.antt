@@ -87,12 +87,13 @@ pub record Encloses (periods : List Period) (level : ℕ) (pair : Pair) : Type 0
   pub upper : exactValue periods level ≤ pair .upper * one ^ length periods
   pub width : pair .upper ≤ pair .lower + (length periods + droppedBy periods)
 
-abbrev pub Bounded : Ledger → ℕ → Result Answer RunFault → Type 0
-Bounded blank level answer = Unit {0}
-Bounded (holds long periods) level (Ok answer) = Encloses periods level (answer .pair)
-Bounded (holds long periods) level (Err fault) = Unit {0}
+-- an answered pair encloses the exact value of the ledger's periods
+abbrev pub PairEncloses : Ledger → ℕ → Result Answer RunFault → Type 0
+PairEncloses blank level answer = Unit {0}
+PairEncloses (holds long periods) level (Ok answer) = Encloses periods level (answer .pair)
+PairEncloses (holds long periods) level (Err fault) = Unit {0}
 
 -- an answer is the ledger's, and its pair encloses the exact value
 pub record Faithful (ledger : Ledger) (level : ℕ) (answer : Result Answer RunFault) : Type 0 where
   pub same : answer ≡ ledgerAnswer ledger level
-  pub bounded : Bounded ledger level answer
+  pub bounded : PairEncloses ledger level answer

@@ -32,7 +32,7 @@ pub record Meaningful (period : Period) : Type 0 where
 abbrev pub weightAt : List Weight → ℕ → ℕ
 weightAt weights j = getD weights j (record { 0 = 0 }) .0
 
--- the least number of amounts after which the weights of all others sum to at most the allowance
+-- the least number such that the weights of the amounts from it on sum to at most the allowance
 abbrev pub cut : ℕ → List Weight → ℕ
 cut allowance [] = 0
 cut allowance (weight ∷ later) = cond (leb (total (weight ∷ later)) allowance) 0 (suc (cut allowance later))
