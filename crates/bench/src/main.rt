@@ -1,4 +1,6 @@
 // Times the largest advance: 4,096 weights, a board of 8,192, plain. Its argument is how many to time.
+#![tactic(auto)]
+
 use anyhow::anyhow;
 use capital::{AnyRuin, Plain};
 use claims::Table;

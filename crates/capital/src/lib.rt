@@ -1,4 +1,6 @@
 // What a period's end leads to: capital rules for a surplus, penalties for a deficit.
+#![tactic(auto)]
+
 mod any_ruin;
 mod barrier;
 mod below;

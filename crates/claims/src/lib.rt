@@ -1,4 +1,6 @@
 // Claim laws: how likely each amount of claims is in one period.
+#![tactic(auto)]
+
 mod draft;
 mod fault;
 mod law;

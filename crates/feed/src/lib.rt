@@ -1,4 +1,6 @@
 // Records: their kinds, reading and writing.
+#![tactic(auto)]
+
 mod fault;
 mod found;
 mod kind;

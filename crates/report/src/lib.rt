@@ -1,4 +1,6 @@
 // What is told: the lines that the program writes, made on the heap, and the points of a chart.
+#![tactic(auto)]
+
 ghost use Rattle.std.specs.Prelude.{◌≡◌, IfOk, string_bytes};
 ghost use Rattle.report.specs.Lines.{refusal_line_lem, end_line_lem, answer_line_lem};
 

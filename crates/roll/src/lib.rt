@@ -1,4 +1,6 @@
 // A row of slots in the caller's memory with a fill count.
+#![tactic(auto)]
+
 mod fault;
 mod roll;
 

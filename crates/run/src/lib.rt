@@ -1,4 +1,6 @@
 // The run: bounds of ruin, level by level, over counted periods.
+#![tactic(auto)]
+
 mod answer;
 mod caller;
 mod fault;

@@ -1,4 +1,6 @@
 // A session: what the records of a feed do, one step at a time, and the log of what is told.
+#![tactic(auto)]
+
 mod book;
 mod cause;
 mod desk;

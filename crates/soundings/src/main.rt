@@ -1,4 +1,6 @@
 // Walks a feed from standard input, and writes what it found.
+#![tactic(auto)]
+
 ghost use Rattle.feed.specs.Walk.{walk_of};
 ghost use Rattle.soundings.specs.Output.{output_of};
 ghost use Rattle.soundings.specs.Walked.{Walked};

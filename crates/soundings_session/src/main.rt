@@ -1,4 +1,6 @@
 // Takes a feed from standard input, steps a session over it, and writes what it tells.
+#![tactic(auto)]
+
 ghost use Rattle.std.specs.Prelude.{◌≡◌, ◌≤◌, [], ◌++◌, length, IfOk, string_bytes, OnOk};
 ghost use Rattle.run.specs.History.{LeadTo};
 ghost use Rattle.session.specs.Step.{at_start};

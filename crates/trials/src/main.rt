@@ -1,4 +1,6 @@
 // Tries what is not proved as a theorem: a figure, every limit and refusal, feeds, and small runs beside exact sums.
+#![tactic(auto)]
+
 mod cases;
 mod engine;
 mod exact;

@@ -1,4 +1,6 @@
 // The numbers of the model, each in a type of its own, so that none is taken for another.
+#![tactic(auto)]
+
 ghost use Rattle.std.specs.Prelude.{◌≡◌};
 ghost use Rattle.units.specs.Surplus.{surplus_of};
 
