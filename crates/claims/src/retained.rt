@@ -24,7 +24,7 @@ impl<L: ClaimLaw> Retained<L> {
 
 // The weight of all amounts from `first` on; a weight of zero does not end the sum.
 fn weight_from<L: ClaimLaw>(law: &L, first: Amount) -> Weight
-    ensures { result.0 ≡ total (drop first.0 (weights law.now)) }
+    ensures { result.0 ≡ total (drop first.0 (L.weights law.now)) }
 {
     let mut sum = 0;
     let mut amount = first;

@@ -2,14 +2,14 @@ use Rattle.std.proofs.Common.{rules}
 use Rattle.claims.proofs.Lookup.{tail_more, tail_none, tail_whole}
 use Rattle.claims.proofs.retained.weight_from.Goals as goal
 
-pub overflow-add-sum : goal.overflow-add-sum
-overflow-add-sum g c =
+pub overflow_add-sum : goal.overflow_add-sum
+overflow_add-sum g c =
     let law = c.args.law.now in
     let more = tail_more (g.L.ClaimLaw.weights law) c.loop-weight.amount.0 c.in-Some.weight c.in-Some.ensures in
     let whole = tail_whole (g.L.ClaimLaw.weights law) c.args.first.0 (g.L.ClaimLaw.lawful law) in search rules
 
-pub overflow-add-amount : goal.overflow-add-amount
-overflow-add-amount g c =
+pub overflow_add-amount : goal.overflow_add-amount
+overflow_add-amount g c =
     let law = c.args.law.now in let lawful = g.L.ClaimLaw.lawful law in
     let more = tail_more (g.L.ClaimLaw.weights law) c.loop-weight.amount.0 c.in-Some.weight c.in-Some.ensures in
     search rules

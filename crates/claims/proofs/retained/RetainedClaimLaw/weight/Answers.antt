@@ -16,4 +16,4 @@ pub returns-else-amount-last : goal.returns-else-amount-last
 returns-else-amount-last g c =
     let weights = g.L.ClaimLaw.weights c.args.self.now.law in
     let lawful = g.L.ClaimLaw.lawful c.args.self.now.law in
-    retained_at c.args.self.now.limit.amount c.args.amount weights c.weight-from.result c.weight-from.ensures (search rules) (search rules)
+    retained_at c.args.self.now.limit.amount c.args.amount weights c.weight_from.result c.weight_from.ensures (search rules) (search rules)
