@@ -19,16 +19,16 @@ pub fn one_period<L: ClaimLaw, R: CapitalRule, P: Penalty>(
     allowance: Weight,
     level: Level,
 ) -> Result<Answer, RunFault>
-    ensures answer { let period = period_of (weights law.now) (carried rule.now) (priced penalty.now) allowance.0 in
+    ensures answer { let period = period_of (L.weights law.now) (R.carried rule.now) (P.priced penalty.now) allowance.0 in
         let first = fresh_on board.old spare.old in
         result ≡ one_answer long period level.0 first }
-    ensures board { let period = period_of (weights law.now) (carried rule.now) (priced penalty.now) allowance.0 in
+    ensures board { let period = period_of (L.weights law.now) (R.carried rule.now) (P.priced penalty.now) allowance.0 in
         let first = fresh_on board.old spare.old in
         board.new ≡ (after (advances period) (after (opens long) first)).board }
-    ensures spare { let period = period_of (weights law.now) (carried rule.now) (priced penalty.now) allowance.0 in
+    ensures spare { let period = period_of (L.weights law.now) (R.carried rule.now) (P.priced penalty.now) allowance.0 in
         let first = fresh_on board.old spare.old in
         spare.new ≡ (after (advances period) (after (opens long) first)).spare }
-    ensures faithful { let period = period_of (weights law.now) (carried rule.now) (priced penalty.now) allowance.0 in
+    ensures faithful { let period = period_of (L.weights law.now) (R.carried rule.now) (P.priced penalty.now) allowance.0 in
         let ledger = ledger_of (length board.old) (length spare.old) (advances period ∷ (opens long ∷ [])) in
         IfOk result (λ answer. Faithful ledger level.0 (Ok answer)) }
 {

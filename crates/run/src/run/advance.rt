@@ -29,10 +29,10 @@ fn gather_weights<L: ClaimLaw>(law: &L, allowance: Weight, slots: &mut [u32]) ->
     requires { length slots.old ≡ 4096 }
     ensures within { result.amounts ≤ 4096 }
     ensures allowed { result.dropped ≤ allowance.0 }
-    ensures least { LeastCut allowance.0 (weights law.now) result.amounts }
-    ensures amounts { result.amounts ≡ cut allowance.0 (weights law.now) }
-    ensures dropped { result.dropped ≡ total (drop result.amounts (weights law.now)) }
-    ensures slots { (j : ℕ) → j < result.amounts → slice_index slots.new (4095 - j) ≡ weight_at (weights law.now) j }
+    ensures least { LeastCut allowance.0 (L.weights law.now) result.amounts }
+    ensures amounts { result.amounts ≡ cut allowance.0 (L.weights law.now) }
+    ensures dropped { result.dropped ≡ total (drop result.amounts (L.weights law.now)) }
+    ensures slots { (j : ℕ) → j < result.amounts → slice_index slots.new (4095 - j) ≡ weight_at (L.weights law.now) j }
 {
     let mut amounts = 0;
     let mut tail = ONE;
@@ -62,8 +62,8 @@ fn cost<R: CapitalRule, P: Penalty>(
     requires known { known ≤ length board.now }
     requires least { neg_ℤ (pos 4095) ≤ℤ surplus }
     requires most { surplus ≤ℤ pos 8192 }
-    ensures { result ≡ then_some (reaches (carried rule.now) known surplus)
-        (cost_pair (carried rule.now) (priced penalty.now) board.now surplus) }
+    ensures { result ≡ then_some (reaches (R.carried rule.now) known surplus)
+        (cost_pair (R.carried rule.now) (P.priced penalty.now) board.now surplus) }
 {
     if let Some(deficit) = Deficit::of_surplus(surplus) {
         let price = penalty.price(deficit);
@@ -98,10 +98,10 @@ fn gather_costs<R: CapitalRule, P: Penalty>(
     requires largest { largest.0 ≤ 4095 }
     requires costs { length costs.old ≡ 12288 }
     ensures within { result ≤ long }
-    ensures known { result ≡ known_by long known (carried rule.now) }
+    ensures known { result ≡ known_by long known (R.carried rule.now) }
     ensures costs { (x : ℕ) → x < largest.0 + result →
         slice_index_or costs.new x nil
-        ≡ cost_pair (carried rule.now) (priced penalty.now) board.now (surplus_of x largest.0) }
+        ≡ cost_pair (R.carried rule.now) (P.priced penalty.now) board.now (surplus_of x largest.0) }
 {
     let ruins = largest.0;
     for level in 0..ruins + long {
@@ -164,12 +164,12 @@ fn work<L: ClaimLaw, R: CapitalRule, P: Penalty>(
     requires slots { length slots.old ≡ 4096 }
     requires costs { length costs.old ≡ 12288 }
     ensures fits { IfSome result (λ w. (w.known ≤ run.long) × (w.dropped ≤ allowance.0)) }
-    ensures answer { let period = period_of (weights law.now) (carried rule.now) (priced penalty.now) allowance.0 in
+    ensures answer { let period = period_of (L.weights law.now) (R.carried rule.now) (P.priced penalty.now) allowance.0 in
         result ≡ worked_of run.long run.known period }
-    ensures board { let period = period_of (weights law.now) (carried rule.now) (priced penalty.now) allowance.0 in
+    ensures board { let period = period_of (L.weights law.now) (R.carried rule.now) (P.priced penalty.now) allowance.0 in
         board.new ≡ where_known (known_after run.long run.known period)
         (board_after run.long run.known period board.old) board.old }
-    ensures spare { let period = period_of (weights law.now) (carried rule.now) (priced penalty.now) allowance.0 in
+    ensures spare { let period = period_of (L.weights law.now) (R.carried rule.now) (P.priced penalty.now) allowance.0 in
         spare.new ≡ where_known (known_after run.long run.known period)
         (spare_after run.long board.old spare.old) spare.old }
 {
@@ -206,10 +206,10 @@ impl Run {
         penalty: &P,
         allowance: Weight,
     ) -> Result<(), RunFault>
-        ensures answer { let period = period_of (weights law.now) (carried rule.now) (priced penalty.now) allowance.0 in
+        ensures answer { let period = period_of (L.weights law.now) (R.carried rule.now) (P.priced penalty.now) allowance.0 in
             let held = held_by self.old board.old spare.old in
             result ≡ advance_answer period held }
-        ensures leaves { let period = period_of (weights law.now) (carried rule.now) (priced penalty.now) allowance.0 in
+        ensures leaves { let period = period_of (L.weights law.now) (R.carried rule.now) (P.priced penalty.now) allowance.0 in
             let held = held_by self.old board.old spare.old in
             held_by self.new board.new spare.new ≡ after (advances period) held }
     {

@@ -2,19 +2,19 @@ use Rattle.std.proofs.Common.{rules}
 use Rattle.soundings_session.proofs.transcript.Goals as goal
 use Rattle.std.proofs.lemmas.Result.{IfOk-from_err, IfOk-weaker}
 
-pub returns-in-err-board : goal.returns-in-err-board
-returns-in-err-board c = search (rules, IfOk-from_err)
+pub returns-in_err-board : goal.returns-in_err-board
+returns-in_err-board c = search (rules, IfOk-from_err)
 
-pub returns-in-err-spare : goal.returns-in-err-spare
-returns-in-err-spare c = search (rules, IfOk-from_err)
+pub returns-in_err-spare : goal.returns-in_err-spare
+returns-in_err-spare c = search (rules, IfOk-from_err)
 
 pub returns : goal.returns
 returns c =
-    IfOk-weaker c.tell-on.result _ _
+    IfOk-weaker c.tell_on.result _ _
     (λ text tells. record {
-      weights = c.as-mut-slice.result.now;
-      board = c.as-mut-slice-2.result.now;
-      spare = c.as-mut-slice-3.result.now;
+      weights = c.as_mut_slice.result.now;
+      board = c.as_mut_slice-2.result.now;
+      spare = c.as_mut_slice-3.result.now;
       log = _;
       slots = search rules;
       pairs = search rules;
@@ -22,4 +22,4 @@ returns c =
       entries = search rules;
       tells = tells;
     })
-    c.tell-on.ensures
+    c.tell_on.ensures

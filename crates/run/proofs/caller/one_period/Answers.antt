@@ -36,8 +36,8 @@ returns g c =
     let begun = fresh-held (kept_by c.fresh-run.result) board spare c.fresh-run.ensures in
     let opening = c.«open».ensures.leaves in
     let advancing = c.advance.ensures.leaves in
-    let taken = sym c.«open».ensures.answer ∙ c.in-ok-open.was in
-    let added = sym c.advance.ensures.answer ∙ c.in-ok-advance.was in
+    let taken = sym c.«open».ensures.answer ∙ c.in_ok-open.was in
+    let added = sym c.advance.ensures.answer ∙ c.in_ok-advance.was in
     let first = led_first (kept_by c.fresh-run.result) board spare c.fresh-run.ensures in
     let led = led_on (advances period) _ meaningful (led_on (opens long) _ tt first opening) advancing in
     let left = left_is long level period (fresh_on board spare) _ _ _ begun opening advancing taken in
@@ -51,8 +51,8 @@ returns g c =
           (search rules) (search rules) (search rules));
     }
 
-pub returns-in-err-advance : goal.returns-in-err-advance
-returns-in-err-advance g c =
+pub returns-in_err-advance : goal.returns-in_err-advance
+returns-in_err-advance g c =
     let board = c.args.board.now in
     let spare = c.args.spare.now in
     let long = c.args.long in
@@ -63,10 +63,10 @@ returns-in-err-advance g c =
     let begun = fresh-held (kept_by c.fresh-run.result) board spare c.fresh-run.ensures in
     let opening = c.«open».ensures.leaves in
     let advancing = c.advance.ensures.leaves in
-    let taken = sym c.«open».ensures.answer ∙ c.in-ok-open.was in
-    let refused = sym c.advance.ensures.answer ∙ c.in-err-advance.was in
+    let taken = sym c.«open».ensures.answer ∙ c.in_ok-open.was in
+    let refused = sym c.advance.ensures.answer ∙ c.in_err-advance.was in
     let left = left_is long level period (fresh_on board spare) _ _ _ begun opening advancing taken in
-    let told = c.from-residual-in-err-advance in
+    let told = c.from_residual-in_err-advance in
     let exit = err_from_is_err_and told.result told.ensures.1 in
     record {
       answer = exit.1

@@ -12,21 +12,21 @@ loop-level-preserved g c =
     (to_z w32 (of_z w32 end)) (to_z-of_z w32 end fits ∙ c.surplus-end.ensures) c.loop-level.costs c.in-Some.pair
     (search rules) c.loop-level.invariant c.in-Some.ensures
 
-pub returns-in-default : goal.returns-in-default
-returns-in-default g c =
+pub returns-in_default : goal.returns-in_default
+returns-in_default g c =
     let rule = c.args.rule.now in
     let carried = g.R.CapitalRule.carried rule in
     let priced = g.P.Penalty.priced c.args.penalty.now in
     let end = c.surplus-end.result in let fits : SFits w32 end = search rules in
     let inv = c.loop-level.invariant in
     let ruins = ruins_below carried priced c.args.board.now c.args.known c.args.largest.0
-    c.loop-level.level (to_z w32 (of_z w32 end)) (to_z-of_z w32 end fits ∙ c.surplus-end.ensures) c.in-default.ensures in
+    c.loop-level.level (to_z w32 (of_z w32 end)) (to_z-of_z w32 end fits ∙ c.surplus-end.ensures) c.in_default.ensures in
     record {
       within = omega (arith, ruins);
       known = known_stops carried priced c.args.board.now c.args.known c.args.largest.0 c.args.long
           c.loop-level.costs c.requires.long (g.met.R.CapitalRule.rising rule) c.loop-level.level
           (to_z w32 (of_z w32 end)) (to_z-of_z w32 end fits ∙ c.surplus-end.ensures) c.loop-level-test.true inv
-          c.in-default.ensures;
+          c.in_default.ensures;
       costs = λ x h. inv.gathered x (omega (arith, h, ruins));
     }
 

@@ -3,14 +3,14 @@ use Rattle.claims.proofs.Lookup.{tail_more, tail_none}
 use Rattle.run.proofs.Gathering.{weighing_more, weighing_all, weighing_least}
 use Rattle.run.proofs.run.advance.gather_weights.Goals as goal
 
-pub overflow-sub-slots : goal.overflow-sub-slots
-overflow-sub-slots g c =
+pub overflow_sub-slots : goal.overflow_sub-slots
+overflow_sub-slots g c =
     let law = c.args.law.now in let lawful = g.L.ClaimLaw.lawful law in
     let more = tail_more (g.L.ClaimLaw.weights law) c.loop-tail.amounts c.in-Some.weight (search rules) in
     search rules
 
-pub overflow-sub-tail : goal.overflow-sub-tail
-overflow-sub-tail g c =
+pub overflow_sub-tail : goal.overflow_sub-tail
+overflow_sub-tail g c =
     let law = c.args.law.now in
     let more = tail_more (g.L.ClaimLaw.weights law) c.loop-tail.amounts c.in-Some.weight (search rules) in
     search rules
@@ -41,8 +41,8 @@ returns-after-loop-tail g c =
       slots = inv.gathered;
     }
 
-pub returns-in-default : goal.returns-in-default
-returns-in-default g c =
+pub returns-in_default : goal.returns-in_default
+returns-in_default g c =
     let law = c.args.law.now in
-    let none = tail_none (g.L.ClaimLaw.weights law) c.loop-tail.amounts c.in-default.ensures in
+    let none = tail_none (g.L.ClaimLaw.weights law) c.loop-tail.amounts c.in_default.ensures in
     absurd (search rules)

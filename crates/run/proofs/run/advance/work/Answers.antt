@@ -7,9 +7,9 @@ use Rattle.run.specs.Period.{Period, period_of}
 use Rattle.std.specs.List.{range_with_len}
 use Rattle.units.specs.Surplus.{surplus_of}
 
-pub fill-row-requires : goal.fill-row-requires
-fill-row-requires g c =
-    let cut = c.gather-weights-cut in
+pub fill_row-requires : goal.fill_row-requires
+fill_row-requires g c =
+    let cut = c.gather_weights-cut in
     let law = c.args.law.now in
     let long = part_length (g.L.ClaimLaw.weights law) cut.new.slots cut.result.amounts cut.ensures.within (search rules) cut.ensures.slots in
     record {
@@ -26,21 +26,21 @@ returns g c =
     let period : Period = period_of weights carried priced c.args.allowance.0 in
     let board = c.args.board.now in
     let long = c.args.run.long in
-    let cut = c.gather-weights-cut in
-    let k = c.gather-costs-known in
+    let cut = c.gather_weights-cut in
+    let k = c.gather_costs-known in
     let left = same-dropped period cut.result.amounts cut.result.dropped cut.ensures.amounts cut.ensures.dropped in
-    let row = c.fill-row.ensures
+    let row = c.fill_row.ensures
     ∙ row-gathered weights cut.new.slots cut.result.amounts cut.ensures.within (search rules) cut.ensures.slots
     carried priced c.args.allowance.0 k.result board k.new.costs cut.ensures.amounts
-    (λ x h. k.ensures.costs x (omega (arith, h, c.saturating-sub.ensures))
-    ∙ ap (λ l. cost_pair carried priced board (surplus_of x l)) c.saturating-sub.ensures)
+    (λ x h. k.ensures.costs x (omega (arith, h, c.saturating_sub.ensures))
+    ∙ ap (λ l. cost_pair carried priced board (surplus_of x l)) c.saturating_sub.ensures)
     cut.result.dropped _ left (search rules) in
     record {
       fits = (k.ensures.within, cut.ensures.allowed);
       answer = where_known_is k.result (known_after long c.args.run.known period) None _ _ k.ensures.known c.if-known-eq0.false
           (ap₂ (λ n d. Some (record { known = n; dropped = d })) k.ensures.known left);
       board = where_known_is k.result (known_after long c.args.run.known period) board _ _ k.ensures.known c.if-known-eq0.false
-          (row_written long k.result board c.fill-row.new.row c.fill.new.self k.ensures.within c.requires.board (search rules) (search rules)
+          (row_written long k.result board c.fill_row.new.row c.fill.new.self k.ensures.within c.requires.board (search rules) (search rules)
           ∙ ap₂ (λ pairs n. (pairs ++ replicate (long - n) nil) ++ drop long board)
           (row ∙ ap (λ n. map (pair_at period board) (range_with_len 0 n)) k.ensures.known) k.ensures.known);
       spare = where_known_is k.result _ _ _ _ k.ensures.known c.if-known-eq0.false (search rules);
