@@ -1,10 +1,9 @@
 -- What stands in the slots as copies of an item are written behind the filled ones.
-use Rattle.std.proofs.Common.{◌≡◌, ℕ, ◌+◌, ◌-◌, ◌<◌, ◌≤◌, min, max, List, ◌++◌, length, take, drop, set, replicate, sym, ap, ◌∙◌, ap₂, ⊎_elim, arith}
+use Rattle.std.proofs.Common.{◌≡◌, ℕ, ◌+◌, ◌-◌, ◌<◌, ◌≤◌, max, List, ◌++◌, length, take, drop, set, replicate, sym, ap, ◌∙◌, ap₂, arith}
 use lib.ListN.{length-replicate}
 use lib.Seq.{paste}
 use Rattle.roll.specs.Roll.{padded}
 use Rattle.std.proofs.lemmas.List.Edits.{paste_none, paste_all, fill_from_more, length-paste}
-use Rattle.std.proofs.lemmas.Bool.{cases_lt}
 
 -- the slots once copies stand up to a place
 abbrev pub written : {A : Type 0} → List A → ℕ → A → ℕ → List A

@@ -1,12 +1,11 @@
 -- The loop that gathers the weights below the cut: what it keeps, its start, a turn and its end.
-use Rattle.std.proofs.Common.{◌≡◌, ℕ, zero, suc, ◌+◌, ◌-◌, ◌<◌, ◌≤◌, ◌≢◌, List, [], ◌∷◌, length, get_or, drop, set, Some, sym, refl, ap, ◌∙◌, subst, zero-add, arith, get_or-set_other, get_or-set_same, below_none, below_more}
+use Rattle.std.proofs.Common.{◌≡◌, ℕ, zero, suc, ◌+◌, ◌-◌, ◌<◌, ◌≤◌, ◌≢◌, List, [], ◌∷◌, length, get_or, drop, set, Some, sym, refl, ap, ◌∙◌, subst, arith, get_or-set_other, get_or-set_same, below_more}
 use Rattle.claims.specs.Law.{Lawful, total}
 use Rattle.claims.proofs.Lookup.{tail_more}
 use Rattle.std.proofs.lemmas.Bool.Decides.{nat_tests}
 use Rattle.run.proofs.Sums.{cut-rest, before_cut}
 use Rattle.run.specs.Period.{cut, LeastCut, weight_at}
 use Rattle.std.specs.List.{slice_get}
-use Rattle.units.specs.One.{one}
 use Rattle.units.specs.declared.Weight.{Weight}
 
 -- after `amounts` amounts: the weight of the others, and the cut so far

@@ -1,5 +1,5 @@
 -- The loop that weighs the costs of one level, and why its sums fit.
-use Rattle.std.proofs.Common.{◌≡◌, ℕ, ◌+◌, ◌-◌, ◌*◌, ◌/◌, ◌^◌, ◌<◌, ◌≤◌, List, length, get_or, refl, ap, ◌∙◌, ap₂, mul-le-mul_left, add-one, arith}
+use Rattle.std.proofs.Common.{◌≡◌, ℕ, ◌+◌, ◌-◌, ◌*◌, ◌/◌, ◌^◌, ◌<◌, ◌≤◌, List, length, get_or, ap, ◌∙◌, ap₂, mul-le-mul_left, add-one, arith}
 use Rattle.run.proofs.Sums.{below-front}
 use Rattle.run.specs.Advance.{sum_below, nil}
 use Rattle.run.specs.Gathered.{pair_from}
