@@ -53,9 +53,9 @@ impl<'a> Desk<'a> {
         penalty: &P,
         allowance: Weight,
     ) -> Result<(), RunFault>
-        ensures answer { let period = period_of (weights law.now) (carried rule.now) (priced penalty.now) allowance.0 in
+        ensures answer { let period = period_of (L.weights law.now) (R.carried rule.now) (P.priced penalty.now) allowance.0 in
             result ≡ advance_answer period (held_in self.old) }
-        ensures held { let period = period_of (weights law.now) (carried rule.now) (priced penalty.now) allowance.0 in
+        ensures held { let period = period_of (L.weights law.now) (R.carried rule.now) (P.priced penalty.now) allowance.0 in
             held_in self.new ≡ after (advances period) (held_in self.old) }
         ensures board { self.new.board.ghost_name ≡ self.old.board.ghost_name }
         ensures spare { self.new.spare.ghost_name ≡ self.old.spare.ghost_name }

@@ -28,8 +28,8 @@ pub mod steps;
 
 // Adds a period of what is retained of a law, by the terms.
 fn add_period<L: ClaimLaw + Drop>(desk: &mut Desk<'_>, law: L, terms: Terms) -> Result<(), RunFault>
-    ensures answer { result ≡ advance_answer (period_by (agreed_by terms) (weights law)) (held_in desk.old) }
-    ensures held { held_in desk.new ≡ after (advances (period_by (agreed_by terms) (weights law))) (held_in desk.old) }
+    ensures answer { result ≡ advance_answer (period_by (agreed_by terms) (L.weights law)) (held_in desk.old) }
+    ensures held { held_in desk.new ≡ after (advances (period_by (agreed_by terms) (L.weights law))) (held_in desk.old) }
     ensures board { desk.new.board.ghost_name ≡ desk.old.board.ghost_name }
     ensures spare { desk.new.spare.ghost_name ≡ desk.old.spare.ghost_name }
 {

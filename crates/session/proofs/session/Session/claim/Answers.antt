@@ -8,10 +8,10 @@ use Rattle.session.specs.Records.{State, with_law}
 use Rattle.session.specs.Views.{state_of}
 use Rattle.std.specs.Result.{result_and}
 
-pub invariant-of-self : goal.invariant-of-self
-invariant-of-self c =
+pub invariant_of-self : goal.invariant_of-self
+invariant_of-self c =
     let s = claim_sound _ _ _ _ c.args.amount c.args.weight (kept c.args.self.now) c.claim.ensures.law c.claim.ensures.weights in
-    (s.fits, (s.few, (s.next, (s.sum, (s.whole, (s.short, tt))))))
+    record { fits = s.fits; few = s.few; next = s.next; sum = s.sum; whole = s.whole; short = s.short }
 
 pub returns : goal.returns
 returns c =

@@ -6,8 +6,8 @@ use Rattle.std.proofs.Common.{sym, subst}
 use Rattle.session.specs.Parts.{law_of, row_of}
 use Rattle.session.specs.Sound.{Sound}
 
-pub invariant-of-self : goal.invariant-of-self
-invariant-of-self c =
+pub invariant_of-self : goal.invariant_of-self
+invariant_of-self c =
     let same = end_sound (given_by c.args.draft) _ _ _ c.args.count c.args.draft.share c.requires (kept c.args.self.now) c.end.ensures.law in
     let s = subst (λ weights. Sound (law_of c.end.new.self) (row_of weights)) (sym c.end.ensures.weights) same in
-    (s.fits, (s.few, (s.next, (s.sum, (s.whole, (s.short, tt))))))
+    record { fits = s.fits; few = s.few; next = s.next; sum = s.sum; whole = s.whole; short = s.short }

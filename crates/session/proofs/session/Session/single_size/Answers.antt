@@ -5,8 +5,8 @@ use Rattle.session.specs.Parts.{law_of, row_of}
 use Rattle.session.specs.Sound.{Sound}
 use Rattle.std.proofs.Common.{sym, subst}
 
-pub invariant-of-self : goal.invariant-of-self
-invariant-of-self c =
+pub invariant_of-self : goal.invariant_of-self
+invariant_of-self c =
     let same = single_sound _ _ _ c.args.size c.args.weight (kept c.args.self.now) c.single.ensures.law in
     let s = subst (λ weights. Sound (law_of c.single.new.self) (row_of weights)) (sym c.single.ensures.weights) same in
-    (s.fits, (s.few, (s.next, (s.sum, (s.whole, (s.short, tt))))))
+    record { fits = s.fits; few = s.few; next = s.next; sum = s.sum; whole = s.whole; short = s.short }

@@ -11,6 +11,6 @@ returns c =
       view = stepped.view;
       lists = stepped.lists;
       nearer = step_nearer (view_of c.args.self.now) c.take_step.result (view_of c.take_step.new.self) stepped.answer stepped.view;
-      leads-on = leads-on c.args.self.now (view_of c.take_step.new.self) stepped.view;
+      leads_on = leads-on c.args.self.now (view_of c.take_step.new.self) stepped.view;
       faithful = tells_faithfully c.args.self.now;
     }
