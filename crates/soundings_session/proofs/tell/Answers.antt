@@ -11,5 +11,5 @@ loop-session-preserved c =
 
 pub returns-in-Ok-Ended : goal.returns-in-Ok-Ended
 returns-in-Ok-Ended c =
-    telling_last (view_of c.args.session.now) (view_of c.loop-session.session) (string_bytes c.loop-session.text) c.loop-session.invariant (string_bytes c.in_ok-end.end)
+    telling_last (view_of c.args.session.now) (view_of c.loop-session.session) (string_bytes c.loop-session.text) c.loop-session.invariant (string_bytes c.in_ok-end-in-Ok-Ended.end)
     (string_bytes c.push_str.new.self) (search rules) (search rules) (search rules)
