@@ -23,8 +23,8 @@ outcome_of (Stopped fault) = stopped fault
 abbrev pub opened : Option Kind → List ℕ → Outcome
 opened None bytes = stopped UnknownKind
 opened (Some k) bytes =
-    cond (nat_le k.body_length_lem (length bytes))
-    (whole (k.says (take k.body_length_lem bytes)) (drop k.body_length_lem bytes))
+    cond (nat_le k.body_length (length bytes))
+    (whole (k.says (take k.body_length bytes)) (drop k.body_length bytes))
     (stopped CutShort)
 
 abbrev pub first_record : List ℕ → Outcome

@@ -25,11 +25,11 @@ weight bytes = record { 0 = number bytes }
 
 pub record Kind : Type 0 where
   pub letter : ℕ
-  pub body_length_lem : ℕ
+  pub body_length : ℕ
   pub says : List ℕ → Record
 
 abbrev kind : String → ℕ → (List ℕ → Record) → Kind
-kind letter body_length_lem says = record { letter = slice_index (codes letter) 0; body_length_lem = body_length_lem; says = says }
+kind letter body_length says = record { letter = slice_index (codes letter) 0; body_length = body_length; says = says }
 
 abbrev pub kinds : List Kind
 kinds =
@@ -58,4 +58,4 @@ abbrev pub kind_of : ℕ → Option Kind
 kind_of letter = kind_in kinds letter
 
 abbrev pub body_length_lem : ℕ → Option ℕ
-body_length_lem letter = option_map (λ k. k.body_length_lem) (kind_of letter)
+body_length_lem letter = option_map (λ k. k.body_length) (kind_of letter)

@@ -39,10 +39,10 @@ some_bytes (Ask level) = omega arith
 -- a letter is a record or a fault, never nothing
 something : (kind : Option Kind) (bytes : List ℕ) → opened kind bytes ≡ nothing → ⊥
 something None bytes e = let z : ◌≡◌ {A = ℕ} 0 1 = cc in omega arith
-something (Some kind) bytes e = either (leb kind.body_length_lem (length bytes)) e
+something (Some kind) bytes e = either (leb kind.body_length (length bytes)) e
   where
     either : (fits : Bool)
-        → cond fits (whole (kind.says (take kind.body_length_lem bytes)) (drop kind.body_length_lem bytes)) (stopped CutShort) ≡ nothing → ⊥
+        → cond fits (whole (kind.says (take kind.body_length bytes)) (drop kind.body_length bytes)) (stopped CutShort) ≡ nothing → ⊥
     either true e = let z : ◌≡◌ {A = ℕ} 0 1 = cc in omega arith
     either false e = let z : ◌≡◌ {A = ℕ} 0 1 = cc in omega arith
 
