@@ -213,7 +213,7 @@ impl Run {
             let held = held_by self.old board.old spare.old in
             held_by self.new board.new spare.new ≡ after (advances period) held }
     {
-        // Made before the checks: clang compiles a frame of this size wrongly where it begins behind an early return.
+        // Made before the checks: clang was seen to compile a frame of this size wrongly where it begins behind an early return.
         let mut slots = [0u32; 4096];
         let mut costs = [NIL; 12288];
         if !self.opened {

@@ -6,8 +6,8 @@ use Rattle.soundings_session.proofs.tell.Goals as goal
 pub loop-session-preserved : goal.loop-session-preserved
 loop-session-preserved c =
     telling_more (view_of c.args.session.now) (view_of c.loop-session.session) (string_bytes c.loop-session.text) c.loop-session.invariant
-    (view_of c.step.new.self) (view_of c.empty_log.new.self) (string_bytes c.add_lines.new.text) (search rules) c.step.ensures.view
-    c.empty_log.ensures.view c.step.ensures.leads_on c.step.ensures.faithful (search rules)
+    (view_of c.step.new.self) _ (string_bytes c.add_lines.new.text) (search rules) c.step.ensures.view
+    (search rules) c.step.ensures.leads_on c.step.ensures.faithful (search rules)
 
 pub returns-in-Ok-Ended : goal.returns-in-Ok-Ended
 returns-in-Ok-Ended c =
