@@ -1,5 +1,6 @@
 -- The quotient of two doubles that are whole numbers, and that a bound divided by 2^30 is a double.
-use Rattle.std.proofs.Common.{◌≡◌, ℕ, ◌*◌, ◌^◌, ◌<◌, ◌≤◌, Bool, true, false, cond, eqb, pos, sym, ap, ◌∙◌, subst, true≢false, lt_of_lt_of_le, le_of_lt, lt_irrefl, mul_assoc, mul_comm, mul-pos, mul-one, lit≤, pow_pos, shl_lt, ne_eqb}
+use Rattle.std.proofs.Common.{◌≡◌, ℕ, ◌*◌, ◌^◌, ◌<◌, ◌≤◌, Bool, true, false, cond, eqb, pos, sym, ap}
+use Rattle.std.proofs.Common.{◌∙◌, subst, true≢false, lt_of_lt_of_le, le_of_lt, lt_irrefl, mul_assoc, mul_comm, mul-pos, mul-one, lit≤, pow_pos, shl_lt, ne_eqb}
 use lib.Ieee.{Float, nan, inf, fin, Format, binary64, up, down, round, div, of_int}
 use lib.Ieee.Back.{round_whole}
 use lib.Ieee.Exact.{HasValue, round_exact}

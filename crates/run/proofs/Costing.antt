@@ -1,5 +1,6 @@
 -- The loop that gathers what each surplus costs, and how many levels are known then.
-use Rattle.std.proofs.Common.{◌≡◌, ℕ, zero, suc, ◌+◌, ◌-◌, ◌<◌, ◌≤◌, Bool, true, false, ltb, ◌≢◌, List, length, get_or, set, ℤ, pos, neg_ℤ, Some, None, count_by, Option, sym, refl, ap, ◌∙◌, ⊎_elim, arith, get_or-set_other, get_or-set_same, below_more}
+use Rattle.std.proofs.Common.{◌≡◌, ℕ, zero, suc, ◌+◌, ◌-◌, ◌<◌, ◌≤◌, Bool, true, false, ltb, ◌≢◌, List, length, get_or, set}
+use Rattle.std.proofs.Common.{ℤ, pos, neg_ℤ, Some, None, count_by, Option, sym, refl, ap, ◌∙◌, ⊎_elim, arith, get_or-set_other, get_or-set_same, below_more}
 use Rattle.capital.specs.Laws.{Rising}
 use Rattle.run.proofs.Costs.{surplus_left, surplus_ruined}
 use Rattle.run.proofs.Paths.{Falling, counting_falling, rising-falls}

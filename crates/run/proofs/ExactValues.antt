@@ -1,6 +1,7 @@
 -- The exact value by recursion on the periods: all sequences weigh one ^ n in all, and the value with a period in front
 -- is the sum of what its amounts lead to, each by its weight.
-use Rattle.std.proofs.Common.{◌≡◌, ℕ, zero, suc, ◌+◌, ◌*◌, ◌^◌, ◌<◌, ◌≤◌, List, [], ◌∷◌, map, length, ℤ, pos, negsuc, sum_by, unwrap_or, sym, refl, ap, ◌∙◌, ap₂, mul-le-mul_right, mul_assoc, zero-add, arith}
+use Rattle.std.proofs.Common.{◌≡◌, ℕ, zero, suc, ◌+◌, ◌*◌, ◌^◌, ◌<◌, ◌≤◌, List, [], ◌∷◌, map, length}
+use Rattle.std.proofs.Common.{ℤ, pos, negsuc, sum_by, unwrap_or, sym, refl, ap, ◌∙◌, ap₂, mul-le-mul_right, mul_assoc, zero-add, arith}
 use native.Mathlib.Nat.{pow-succ'}
 use Rattle.run.proofs.Costs.{cost-at-most}
 use Rattle.run.proofs.Recursion.{AllMeaningful}

@@ -1,5 +1,6 @@
 -- The loop that gathers the weights below the cut: what it keeps, its start, a turn and its end.
-use Rattle.std.proofs.Common.{◌≡◌, ℕ, zero, suc, ◌+◌, ◌-◌, ◌<◌, ◌≤◌, ◌≢◌, List, [], ◌∷◌, length, get_or, drop, set, Some, sym, refl, ap, ◌∙◌, subst, arith, get_or-set_other, get_or-set_same, below_more}
+use Rattle.std.proofs.Common.{◌≡◌, ℕ, zero, suc, ◌+◌, ◌-◌, ◌<◌, ◌≤◌, ◌≢◌, List, [], ◌∷◌, length}
+use Rattle.std.proofs.Common.{get_or, drop, set, Some, sym, refl, ap, ◌∙◌, subst, arith, get_or-set_other, get_or-set_same, below_more}
 use Rattle.claims.specs.Law.{Lawful, total}
 use Rattle.claims.proofs.Lookup.{tail_more}
 use Rattle.std.proofs.lemmas.Bool.Decides.{nat_tests}

@@ -1,5 +1,6 @@
 -- Which levels are known: those whose path without claims stays on the board. Their pairs are the recursion's.
-use Rattle.std.proofs.Common.{◌≡◌, ℕ, zero, suc, ◌+◌, ◌-◌, ◌*◌, ◌<◌, ◌≤◌, Bool, true, false, cond, ◌&&◌, ltb, List, [], ◌∷◌, ◌++◌, map, length, get_or, replicate, ℤ, pos, negsuc, count_by, sym, refl, ap, ◌∙◌, ap₂, add-one, arith, length-append}
+use Rattle.std.proofs.Common.{◌≡◌, ℕ, zero, suc, ◌+◌, ◌-◌, ◌*◌, ◌<◌, ◌≤◌, Bool, true, false, cond, ◌&&◌, ltb, List, [], ◌∷◌}
+use Rattle.std.proofs.Common.{◌++◌, map, length, get_or, replicate, ℤ, pos, negsuc, count_by, sym, refl, ap, ◌∙◌, ap₂, add-one, arith, length-append}
 use lib.ListN.{length-replicate}
 use mathlib.Core.Path.{fun_ext}
 use Rattle.capital.specs.Laws.{Rising}

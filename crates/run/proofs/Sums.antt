@@ -1,5 +1,6 @@
 -- Sums over the numbers below n and over lists, sums by weights, and a law's weights before and after the cut.
-use Rattle.std.proofs.Common.{◌≡◌, ℕ, zero, suc, ◌+◌, ◌-◌, ◌*◌, ◌<◌, ◌≤◌, leb, List, [], ◌∷◌, map, length, drop, sum_by, sym, refl, ap, ◌∙◌, ap₂, add-zero, add-suc, mul_assoc, add-mul, mul-le-mul_left, mul-zero, zero-mul, arith}
+use Rattle.std.proofs.Common.{◌≡◌, ℕ, zero, suc, ◌+◌, ◌-◌, ◌*◌, ◌<◌, ◌≤◌, leb, List, [], ◌∷◌, map, length}
+use Rattle.std.proofs.Common.{drop, sum_by, sym, refl, ap, ◌∙◌, ap₂, add-zero, add-suc, mul_assoc, add-mul, mul-le-mul_left, mul-zero, zero-mul, arith}
 use Rattle.claims.specs.Law.{total}
 use Rattle.run.specs.Advance.{sum_below}
 use Rattle.run.specs.Period.{weight_at, cut}

@@ -1,5 +1,6 @@
 -- Each step that takes something comes nearer to the end of the feed.
-use Rattle.std.proofs.Common.{◌≡◌, ℕ, ◌+◌, ◌-◌, ◌<◌, ◌≤◌, Bool, true, false, cond, eqb, ltb, leb, List, [], ◌∷◌, length, take, drop, Some, None, Ok, Err, Option, Result, sym, refl, ap, subst₂, arith, length-drop}
+use Rattle.std.proofs.Common.{◌≡◌, ℕ, ◌+◌, ◌-◌, ◌<◌, ◌≤◌, Bool, true, false, cond, eqb, ltb, leb, List, [], ◌∷◌}
+use Rattle.std.proofs.Common.{length, take, drop, Some, None, Ok, Err, Option, Result, sym, refl, ap, subst₂, arith, length-drop}
 use Rattle.feed.specs.Bytes.{record_bytes}
 use Rattle.feed.specs.FirstRecord.{Outcome, nothing, whole, stopped, opened, first_record}
 use Rattle.feed.specs.Kinds.{Kind, kind_of}

@@ -1,5 +1,6 @@
 -- What a session keeps of its law and the roll of its weights stays so, whatever a record does.
-use Rattle.std.proofs.Common.{◌≡◌, ℕ, ◌+◌, ◌-◌, ◌<◌, ◌≤◌, Bool, true, false, cond, List, [], ◌∷◌, ◌++◌, length, take, drop, replicate, Some, None, Option, sym, refl, ap, ◌∙◌, subst, subst₂, arith, length-append, length-drop, length-take}
+use Rattle.std.proofs.Common.{◌≡◌, ℕ, ◌+◌, ◌-◌, ◌<◌, ◌≤◌, Bool, true, false, cond, List, [], ◌∷◌, ◌++◌, length, take}
+use Rattle.std.proofs.Common.{drop, replicate, Some, None, Option, sym, refl, ap, ◌∙◌, subst, subst₂, arith, length-append, length-drop, length-take}
 use lib.ListN.{length-replicate}
 use Rattle.claims.specs.Draft.{Given, give_fault, end_fault}
 use Rattle.claims.specs.Law.{Lawful, total}
