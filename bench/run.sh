@@ -2,9 +2,11 @@
 # Times the largest advance in Rattle and in C, on this machine, in one run.
 set -eu
 cd "$(dirname "$0")/.."
-rt check bench > target/bench.log 2>&1 || { tail -n 20 target/bench.log; exit 1; }
-gcc -O3 -o target/advance bench/advance.c
+out=crates/bench/out
+mkdir -p "$out"
+(cd crates/bench && rt run) > "$out/bench.log" 2>&1 || { tail -n 20 "$out/bench.log"; exit 1; }
+gcc -O3 -o "$out/advance" bench/advance.c
 for turn in 1 2 3; do
-    target/bin/bench 40
-    target/advance 40
+    "$out/bench" 40
+    "$out/advance" 40
 done
