@@ -1,10 +1,10 @@
 // Times the largest advance: 4,096 weights, a board of 8,192, plain. Its argument is how many to time.
 #![tactic(auto)]
 
-use anyhow::anyhow;
+use anyhow::{Context, Result};
 use capital::{AnyRuin, Plain};
 use claims::Table;
-use run::{Pair, Run};
+use run::{NIL, Pair, Period, Run};
 use std::env;
 use std::time::Instant;
 use units::Weight;
@@ -19,29 +19,32 @@ fn time_one(
     board: &mut [Pair],
     spare: &mut [Pair],
     law: &Table<'_>,
-) -> anyhow::Result<u128> {
+) -> Result<u128> {
     let mut run = Run::fresh();
-    if run.open(LONG, board, spare).is_err() {
-        return Err(anyhow!("the run was not opened"));
-    }
+    run.open(LONG, board, spare)
+        .ok()
+        .context("the run was not opened")?;
+    let period = Period {
+        law,
+        rule: &Plain,
+        penalty: &AnyRuin,
+        allowance: Weight(0),
+    };
     let start = Instant::now(rt)?;
-    let added = run.advance(board, spare, law, &Plain, &AnyRuin, Weight(0));
+    let added = run.advance(board, spare, &period);
     let taken = start.elapsed(rt)?.as_nanos();
-    match added {
-        Ok(()) => Ok(taken),
-        Err(_) => Err(anyhow!("the advance was refused")),
-    }
+    added.ok().context("the advance was refused")?;
+    Ok(taken)
 }
 
-fn time_all(rt: &HostRuntime, rounds: u64) -> anyhow::Result<()> {
-    let nil = Pair { lower: 0, upper: 0 };
-    let mut board = vec![in rt.alloc(); nil; LONG as usize]?;
-    let mut spare = vec![in rt.alloc(); nil; LONG as usize]?;
+fn time_all(rt: &HostRuntime, rounds: u64) -> Result<()> {
+    let mut board = vec![in rt.alloc(); NIL; LONG as usize]?;
+    let mut spare = vec![in rt.alloc(); NIL; LONG as usize]?;
     let list = vec![in rt.alloc(); Weight(1 << 18); AMOUNTS]?;
     let mut law = Table::calm();
-    if law.load(list.as_slice()).is_err() {
-        return Err(anyhow!("the law was not loaded"));
-    }
+    law.load(list.as_slice())
+        .ok()
+        .context("the law was not loaded")?;
     let mut best = u128::MAX;
     for _ in 0..rounds {
         best = best.min(time_one(rt, board.as_mut_slice(), spare.as_mut_slice(), &law)?);
@@ -53,7 +56,7 @@ fn time_all(rt: &HostRuntime, rounds: u64) -> anyhow::Result<()> {
     Ok(())
 }
 
-fn main(rt: HostRuntime) -> anyhow::Result<()> {
+fn main(rt: HostRuntime) -> Result<()> {
     let Some(rounds) = env::args(&rt)?.nth(1) else {
         println!(rt; "give the number of advances to time")?;
         return Ok(());

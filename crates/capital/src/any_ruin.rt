@@ -13,8 +13,7 @@ impl Penalty for AnyRuin {
 
     ghost bounded = { Prim.search rules };
 
-    fn price(&self, deficit: Deficit) -> Weight {
-        let _ = deficit;
+    fn price(&self, _deficit: Deficit) -> Weight {
         Weight(ONE)
     }
 }

@@ -2,43 +2,34 @@ use crate::*;
 use std::test::Fail;
 use units::{Deficit, Level, ONE, PositiveSurplus};
 
-// The number of a refusal, 0 for none.
-fn told<T: Drop>(answer: Result<T, CapitalFault>) -> u16 {
-    match answer {
-        Ok(_) => 0,
-        Err(fault) => fault.number(),
-    }
+// The number of a refusal.
+fn told<T: Drop>(answer: Result<T, CapitalFault>) -> Option<u16> {
+    answer.err().map(u16::from)
 }
 
-// Where a rule carries a surplus; 0 if it cannot be asked.
-fn carried(rule: &impl CapitalRule, surplus: i32) -> u16 {
-    match PositiveSurplus::new(surplus) {
-        Some(surplus) => rule.carry(surplus).0,
-        None => 0,
-    }
+// Where a rule carries a surplus, if it can be asked.
+fn carried(rule: &impl CapitalRule, surplus: i32) -> Option<u16> {
+    let surplus = PositiveSurplus::new(surplus)?;
+    Some(rule.carry(surplus).0)
 }
 
-// What a penalty prices a deficit at; ONE + 1 if it cannot be asked.
-fn priced(penalty: &impl Penalty, deficit: u16) -> u32 {
-    match Deficit::of_surplus(-(deficit as i32)) {
-        Some(deficit) => penalty.price(deficit).0,
-        None => ONE + 1,
-    }
+// What a penalty prices a deficit at, if it can be asked.
+fn priced(penalty: &impl Penalty, deficit: u16) -> Option<u32> {
+    let deficit = Deficit::of_surplus(-i32::from(deficit))?;
+    Some(penalty.price(deficit).0)
 }
 
 #[test]
 fn numbers_are_taken_within_their_limits(rt: HostRuntime) {
     for (level, taken) in [(1, true), (8191, true), (0, false), (8192, false)] {
-        assert_eq!(rt; told(Floor::new(Level(level))), if taken { 0 } else { 401 });
-        assert_eq!(rt;
-            told(Barrier::new(Level(level))),
-            if taken { 0 } else { 402 }
-        );
+        let refused = |number| if taken { None } else { Some(number) };
+        assert_eq!(rt; told(Floor::new(Level(level))), refused(401));
+        assert_eq!(rt; told(Barrier::new(Level(level))), refused(402));
     }
-    for (y, number) in [(1, 0), (4096, 0), (0, 403), (4097, 403)] {
+    for (y, number) in [(1, None), (4096, None), (0, Some(403)), (4097, Some(403))] {
         assert_eq!(rt; told(Below::new(y)), number);
     }
-    for (m, number) in [(0, 0), (12, 0), (13, 404)] {
+    for (m, number) in [(0, None), (12, None), (13, Some(404))] {
         assert_eq!(rt; told(Scaled::new(m)), number);
     }
 }
@@ -53,9 +44,9 @@ fn rules_carry(rt: HostRuntime) -> Result<(), Fail> {
         (4, 4, 4, 3),
         (8192, 8192, 8192, 3),
     ] {
-        assert_eq!(rt; carried(&Plain, surplus), plain);
-        assert_eq!(rt; carried(&floor, surplus), lifted);
-        assert_eq!(rt; carried(&barrier, surplus), paid_out);
+        assert_eq!(rt; carried(&Plain, surplus), Some(plain));
+        assert_eq!(rt; carried(&floor, surplus), Some(lifted));
+        assert_eq!(rt; carried(&barrier, surplus), Some(paid_out));
     }
     Ok(())
 }
@@ -71,12 +62,12 @@ fn penalties_price(rt: HostRuntime) -> Result<(), Fail> {
         (8, 0, 8),
         (4095, 0, 8),
     ] {
-        assert_eq!(rt; priced(&AnyRuin, deficit), ONE);
-        assert_eq!(rt; priced(&below, deficit), under_4);
-        assert_eq!(rt; priced(&scaled, deficit), by_eighths * (ONE / 8));
+        assert_eq!(rt; priced(&AnyRuin, deficit), Some(ONE));
+        assert_eq!(rt; priced(&below, deficit), Some(under_4));
+        assert_eq!(rt; priced(&scaled, deficit), Some(by_eighths * (ONE / 8)));
     }
-    assert_eq!(rt; priced(&Below::new(4096)?, 4095), ONE);
-    assert_eq!(rt; priced(&Scaled::new(0)?, 1), ONE);
-    assert_eq!(rt; priced(&Scaled::new(12)?, 4095), ONE - (1 << 18));
+    assert_eq!(rt; priced(&Below::new(4096)?, 4095), Some(ONE));
+    assert_eq!(rt; priced(&Scaled::new(0)?, 1), Some(ONE));
+    assert_eq!(rt; priced(&Scaled::new(12)?, 4095), Some(ONE - (1 << 18)));
     Ok(())
 }

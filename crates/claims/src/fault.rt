@@ -3,31 +3,22 @@ ghost use Rattle.claims.specs.Fault.{fault_number};
 
 #[derive(Clone, Copy, PartialEq, Eq, Debug)]
 pub enum LawFault {
-    ListLength,
-    SumAboveOne,
-    SumBelowOne,
-    AmountRange,
-    AmountOrder,
-    CountDiffers,
-    SizeRange,
-    WeightAboveOne,
-    LimitRange,
+    ListLength = 301,
+    SumAboveOne = 302,
+    SumBelowOne = 303,
+    AmountRange = 304,
+    AmountOrder = 305,
+    CountDiffers = 306,
+    SizeRange = 307,
+    WeightAboveOne = 308,
+    LimitRange = 309,
 }
 
-impl LawFault {
-    pub fn number(self) -> u16
-        ensures { result ≡ fault_number self }
-    {
-        match self {
-            LawFault::ListLength => 301,
-            LawFault::SumAboveOne => 302,
-            LawFault::SumBelowOne => 303,
-            LawFault::AmountRange => 304,
-            LawFault::AmountOrder => 305,
-            LawFault::CountDiffers => 306,
-            LawFault::SizeRange => 307,
-            LawFault::WeightAboveOne => 308,
-            LawFault::LimitRange => 309,
-        }
+// For this enum alone: one `From` of `u16` for all layers' faults can't be written outside std.
+impl From<LawFault> for u16 {
+    ghost from_gives = { λ fault number. number ≡ fault_number fault };
+
+    fn from(fault: LawFault) -> u16 {
+        fault as u16
     }
 }

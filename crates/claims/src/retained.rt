@@ -22,36 +22,35 @@ impl<L: ClaimLaw> Retained<L> {
     }
 }
 
-// The weight of all amounts from `first` on; a weight of zero does not end the sum.
+// The weight of all amounts from `first` on: a law has 4,096 at most, and a weight of zero does not end the sum.
+// A loop, since over map_while and sum the proof does not see what the law answered.
 fn weight_from<L: ClaimLaw>(law: &L, first: Amount) -> Weight
     ensures { result.0 ≡ total (drop first.0 (L.weights law.now)) }
 {
     let mut sum = 0;
-    let mut amount = first;
-    while let Some(weight) = law.weight(amount) {
+    for amount in first.0..4096 {
+        let Some(weight) = law.weight(Amount(amount)) else {
+            break;
+        };
         sum += weight.0;
-        amount = Amount(amount.0 + 1);
     }
     Weight(sum)
 }
 
 impl<L: ClaimLaw> ClaimLaw for Retained<L> {
-    ghost weights = { λ r. retained_weights r.limit.amount (L.ClaimLaw.weights r.law) };
+    ghost weights = { λ r. retained_weights (record { 0 = r.limit.amount.value }) (L.ClaimLaw.weights r.law) };
 
-    ghost lawful = { λ r. retained_lawful r.limit.amount (L.ClaimLaw.weights r.law) r.limit.most (L.ClaimLaw.lawful r.law) };
+    ghost lawful = { λ r. retained_lawful (record { 0 = r.limit.amount.value }) (L.ClaimLaw.weights r.law) r.limit.amount.most (L.ClaimLaw.lawful r.law) };
 
     fn last(&self) -> Amount {
-        let limit = self.limit.amount();
-        let last = self.law.last();
-        if limit.0 < last.0 { limit } else { last }
+        self.limit.amount().min(self.law.last())
     }
 
     fn weight(&self, amount: Amount) -> Option<Weight> {
         let limit = self.limit.amount();
-        let last = self.law.last();
-        if amount.0 < limit.0 {
+        if amount < limit {
             self.law.weight(amount)
-        } else if amount.0 > limit.0 || amount.0 > last.0 {
+        } else if amount > self.last() {
             None
         } else {
             Some(weight_from(&self.law, amount))

@@ -4,29 +4,17 @@ use units::{Amount, ONE, Weight};
 
 const QUARTER: u32 = ONE / 4;
 
-// The number of a refusal, 0 for none.
-fn told<T: Drop>(answer: Result<T, LawFault>) -> u16 {
-    match answer {
-        Ok(_) => 0,
-        Err(fault) => fault.number(),
-    }
+// The number of a refusal.
+fn told<T: Drop>(answer: Result<T, LawFault>) -> Option<u16> {
+    answer.err().map(u16::from)
 }
 
 fn weight(law: &impl ClaimLaw, amount: u16) -> Option<u32> {
-    match law.weight(Amount(amount)) {
-        Some(weight) => Some(weight.0),
-        None => None,
-    }
+    law.weight(Amount(amount)).map(|weight| weight.0)
 }
 
 fn first_weights(law: &impl ClaimLaw) -> [Option<u32>; 5] {
-    [
-        weight(law, 0),
-        weight(law, 1),
-        weight(law, 2),
-        weight(law, 3),
-        weight(law, 4),
-    ]
+    [0, 1, 2, 3, 4].map(|amount| weight(law, amount))
 }
 
 #[test]
@@ -36,16 +24,16 @@ fn load_takes_a_whole_list_or_leaves_the_table(rt: HostRuntime) -> Result<(), Fa
     let above = [Weight(ONE), Weight(1)];
     let below = [Weight(ONE - 1)];
     let mut table = Table::calm();
-    assert_eq!(rt; told(table.load(&[])), 301);
-    assert_eq!(rt; told(table.load(too_long.as_slice())), 301);
-    assert_eq!(rt; told(table.load(&above)), 302);
-    assert_eq!(rt; told(table.load(&below)), 303);
+    assert_eq!(rt; told(table.load(&[])), Some(301));
+    assert_eq!(rt; told(table.load(too_long.as_slice())), Some(301));
+    assert_eq!(rt; told(table.load(&above)), Some(302));
+    assert_eq!(rt; told(table.load(&below)), Some(303));
     assert_eq!(rt; first_weights(&table), [Some(ONE), None, None, None, None]);
-    assert_eq!(rt; told(table.load(longest.as_slice())), 0);
+    assert_eq!(rt; told(table.load(longest.as_slice())), None);
     assert_eq!(rt; table.last().0, 4095);
     assert_eq!(rt; weight(&table, 4095), Some(ONE / 4096));
     assert_eq!(rt; weight(&table, 4096), None);
-    assert_eq!(rt; told(table.load(&above)), 302);
+    assert_eq!(rt; told(table.load(&above)), Some(302));
     assert_eq!(rt; table.last().0, 4095);
     Ok(())
 }
@@ -53,12 +41,12 @@ fn load_takes_a_whole_list_or_leaves_the_table(rt: HostRuntime) -> Result<(), Fa
 #[test]
 fn single_size_is_1_to_4095_and_at_most_one(rt: HostRuntime) -> Result<(), Fail> {
     let cases = [
-        (1, ONE, 0),
-        (4095, ONE, 0),
-        (0, ONE, 307),
-        (4096, ONE, 307),
-        (4096, ONE + 1, 307),
-        (1, ONE + 1, 308),
+        (1, ONE, None),
+        (4095, ONE, None),
+        (0, ONE, Some(307)),
+        (4096, ONE, Some(307)),
+        (4096, ONE + 1, Some(307)),
+        (1, ONE + 1, Some(308)),
     ];
     for (size, weight, number) in cases {
         assert_eq!(rt; told(SingleSize::new(Amount(size), Weight(weight))), number);
@@ -74,7 +62,7 @@ fn single_size_is_1_to_4095_and_at_most_one(rt: HostRuntime) -> Result<(), Fail>
 
 #[test]
 fn limit_is_1_to_4095(rt: HostRuntime) -> Result<(), Fail> {
-    for (limit, number) in [(1, 0), (4095, 0), (0, 309), (4096, 309)] {
+    for (limit, number) in [(1, None), (4095, None), (0, Some(309)), (4096, Some(309))] {
         assert_eq!(rt; told(Limit::new(Amount(limit))), number);
     }
     assert_eq!(rt; Limit::new(Amount(7))?.amount().0, 7);

@@ -1,3 +1,1 @@
 pub mod RoundTrip
-pub mod Opening
-pub mod Walking

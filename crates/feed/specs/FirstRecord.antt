@@ -1,11 +1,10 @@
 -- What stands first in some bytes. Assumes nothing.
-use Rattle.std.specs.Prelude.{◌≡◌, ℕ, cond, List, [], ◌∷◌, ◌++◌, length, take, drop, Some, None, Option, nat_le}
+use Rattle.std.specs.Prelude.{◌≡◌, ℕ, cond, List, [], ◌∷◌, ◌++◌, length, take, drop, Some, None, Option, Ok, Err, Result, nat_le}
+use Rattle.std.specs.Borrow.{Bor}
 use Rattle.feed.specs.Bytes.{record_bytes}
 use Rattle.feed.specs.Kinds.{Kind, kind_of}
 use Rattle.feed.specs.declared.fault.FeedFault.{FeedFault}
 use Rattle.feed.specs.declared.fault.FeedFault.TheVariants.{UnknownKind, CutShort}
-use Rattle.feed.specs.declared.reading.Reading.{Reading}
-use Rattle.feed.specs.declared.reading.Reading.TheVariants.{Nothing, Whole, Stopped}
 use Rattle.feed.specs.declared.record.Record.{Record}
 
 -- a reading, with the rest as the bytes that it holds
@@ -14,10 +13,10 @@ pub data Outcome : Type 0 where
   whole : Record → List ℕ → Outcome
   stopped : FeedFault → Outcome
 
-abbrev pub outcome_of : Reading → Outcome
-outcome_of Nothing = nothing
-outcome_of (Whole r rest) = whole r rest.now
-outcome_of (Stopped fault) = stopped fault
+abbrev pub outcome_of : Result (Option (Record × Bor (List ℕ))) FeedFault → Outcome
+outcome_of (Ok None) = nothing
+outcome_of (Ok (Some taken)) = whole taken.0 taken.1.now
+outcome_of (Err fault) = stopped fault
 
 -- the bytes behind a letter, as the body of its kind and the rest
 abbrev pub opened : Option Kind → List ℕ → Outcome

@@ -2,19 +2,19 @@
 #![tactic(auto)]
 
 mod fault;
-mod found;
 mod kind;
 mod reader;
 mod reading;
 mod record;
+mod taking;
 mod writing;
 
 pub use fault::FeedFault;
-pub use found::Found;
 pub use kind::body_length;
-pub use reader::Reader;
-pub use reading::{Reading, read};
+pub use reader::{Found, Reader};
+pub use reading::read;
 pub use record::Record;
+pub use taking::take_feed;
 pub use writing::write;
 
 #[cfg(test)]

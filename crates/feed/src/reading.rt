@@ -1,4 +1,4 @@
-ghost use Rattle.std.specs.Prelude.{◌≡◌, [], ◌∷◌, ◌++◌, Some, slice_index};
+ghost use Rattle.std.specs.Prelude.{◌≡◌, [], ◌∷◌, ◌++◌, Some};
 ghost use Rattle.feed.specs.Bytes.{record_bytes, two, four};
 ghost use Rattle.feed.specs.FirstRecord.{first_record, outcome_of, WritesBack};
 ghost use Rattle.feed.specs.Kinds.{body_length_lem};
@@ -8,112 +8,37 @@ use crate::kind::body_length;
 use crate::record::Record;
 use units::{Amount, Level, Weight};
 
-// What stands first in some bytes: nothing, a whole record and the rest, or why no record can be read.
-#[derive(Clone, Copy)]
-pub enum Reading<'a> {
-    Nothing,
-    Whole(Record, &'a [u8]),
-    Stopped(FeedFault),
-}
-
-// The first record of some bytes. Its kind fixes how many of them are its body.
-pub fn read(bytes: &[u8]) -> Reading<'_>
+// The first record of some bytes and the bytes behind it, if there are any bytes. Its kind fixes how many of them are its body.
+pub fn read(bytes: &[u8]) -> Result<Option<(Record, &[u8])>, FeedFault>
     ensures first { outcome_of result ≡ first_record bytes.now }
     ensures writes_back { WritesBack (outcome_of result) bytes.now }
 {
     let [kind, ..] = bytes else {
-        return Reading::Nothing;
+        return Ok(None);
     };
-    match body_length(char::from(*kind)) {
-        None => Reading::Stopped(FeedFault::UnknownKind),
-        Some(0) => read_bare(bytes),
-        Some(1) => read_one(bytes),
-        Some(2) => read_two(bytes),
-        Some(4) => read_four(bytes),
-        Some(_) => read_six(bytes),
-    }
-}
-
-fn read_bare(bytes: &[u8]) -> Reading<'_>
-    requires { body_length_lem (slice_index bytes.now 0) ≡ Some 0 }
-    ensures first { outcome_of result ≡ first_record bytes.now }
-    ensures writes_back { WritesBack (outcome_of result) bytes.now }
-{
-    match bytes {
-        [kind, rest @ ..] => Reading::Whole(bare(char::from(*kind)), rest),
-        [] => Reading::Nothing,
-    }
-}
-
-fn read_one(bytes: &[u8]) -> Reading<'_>
-    requires { body_length_lem (slice_index bytes.now 0) ≡ Some 1 }
-    ensures first { outcome_of result ≡ first_record bytes.now }
-    ensures writes_back { WritesBack (outcome_of result) bytes.now }
-{
-    match bytes {
-        [_, scale, rest @ ..] => Reading::Whole(Record::Scaled(*scale), rest),
-        _ => Reading::Stopped(FeedFault::CutShort),
-    }
-}
-
-fn read_two(bytes: &[u8]) -> Reading<'_>
-    requires { body_length_lem (slice_index bytes.now 0) ≡ Some 2 }
-    ensures first { outcome_of result ≡ first_record bytes.now }
-    ensures writes_back { WritesBack (outcome_of result) bytes.now }
-{
-    match bytes {
-        [kind, hi, lo, rest @ ..] => {
-            let number = of_two(*hi, *lo);
-            Reading::Whole(numbered(char::from(*kind), number), rest)
+    let length = body_length(char::from(*kind)).ok_or(FeedFault::UnknownKind)?;
+    let (record, rest) = match (length, bytes) {
+        (0, [kind, rest @ ..]) => (bare(char::from(*kind)), rest),
+        (1, [_, scale, rest @ ..]) => (Record::Scaled(*scale), rest),
+        (2, [kind, hi, lo, rest @ ..]) => {
+            let number = u16::from_be_bytes([*hi, *lo]);
+            (numbered(char::from(*kind), number), rest)
         }
-        _ => Reading::Stopped(FeedFault::CutShort),
-    }
-}
-
-fn read_four(bytes: &[u8]) -> Reading<'_>
-    requires { body_length_lem (slice_index bytes.now 0) ≡ Some 4 }
-    ensures first { outcome_of result ≡ first_record bytes.now }
-    ensures writes_back { WritesBack (outcome_of result) bytes.now }
-{
-    match bytes {
-        [_, a, b, c, d, rest @ ..] => {
-            let allowance = Weight(of_four(*a, *b, *c, *d));
-            Reading::Whole(Record::Allowance(allowance), rest)
+        (4, [_, a, b, c, d, rest @ ..]) => {
+            let weight = Weight(u32::from_be_bytes([*a, *b, *c, *d]));
+            (Record::Allowance(weight), rest)
         }
-        _ => Reading::Stopped(FeedFault::CutShort),
-    }
-}
-
-fn read_six(bytes: &[u8]) -> Reading<'_>
-    requires { body_length_lem (slice_index bytes.now 0) ≡ Some 6 }
-    ensures first { outcome_of result ≡ first_record bytes.now }
-    ensures writes_back { WritesBack (outcome_of result) bytes.now }
-{
-    match bytes {
-        [kind, hi, lo, a, b, c, d, rest @ ..] => {
-            let amount = Amount(of_two(*hi, *lo));
-            let weight = Weight(of_four(*a, *b, *c, *d));
-            Reading::Whole(weighed(char::from(*kind), amount, weight), rest)
+        (6, [kind, hi, lo, a, b, c, d, rest @ ..]) => {
+            let amount = Amount(u16::from_be_bytes([*hi, *lo]));
+            let weight = Weight(u32::from_be_bytes([*a, *b, *c, *d]));
+            (weighed(char::from(*kind), amount, weight), rest)
         }
-        _ => Reading::Stopped(FeedFault::CutShort),
-    }
+        _ => return Err(FeedFault::CutShort),
+    };
+    Ok(Some((record, rest)))
 }
 
-// The number that two bytes say, high byte first.
-fn of_two(hi: u8, lo: u8) -> u16
-    ensures { two result ≡ hi ∷ lo ∷ [] }
-{
-    u16::from_be_bytes([hi, lo])
-}
-
-// The number that four bytes say, high byte first.
-fn of_four(a: u8, b: u8, c: u8, d: u8) -> u32
-    ensures { four result ≡ a ∷ b ∷ c ∷ d ∷ [] }
-{
-    u32::from_be_bytes([a, b, c, d])
-}
-
-// The record of a kind that has no body.
+// The record of a kind that has no body. Here and below, the length of the body rules out the other letters.
 fn bare(kind: char) -> Record
     requires { body_length_lem kind ≡ Some 0 }
     ensures { record_bytes result ≡ kind ∷ [] }
@@ -123,7 +48,7 @@ fn bare(kind: char) -> Record
         'n' => Record::Plain,
         'p' => Record::AnyRuin,
         't' => Record::Advance,
-        _ => unreachable(),
+        _ => unreachable!(),
     }
 }
 
@@ -140,7 +65,7 @@ fn numbered(kind: char, number: u16) -> Record
         'y' => Record::BelowDeficit(number),
         'o' => Record::Open(number),
         'u' => Record::Ask(Level(number)),
-        _ => unreachable(),
+        _ => unreachable!(),
     }
 }
 
@@ -152,6 +77,6 @@ fn weighed(kind: char, amount: Amount, weight: Weight) -> Record
     match kind {
         'w' => Record::Claim(amount, weight),
         's' => Record::SingleSize(amount, weight),
-        _ => unreachable(),
+        _ => unreachable!(),
     }
 }

@@ -1,6 +1,7 @@
 -- The quotient of two doubles that are whole numbers, and that a bound divided by 2^30 is a double.
 use Rattle.std.proofs.Common.{◌≡◌, ℕ, ◌*◌, ◌^◌, ◌<◌, ◌≤◌, Bool, true, false, cond, eqb, pos, sym, ap}
-use Rattle.std.proofs.Common.{◌∙◌, subst, true≢false, lt_of_lt_of_le, le_of_lt, lt_irrefl, mul_assoc, mul_comm, mul-pos, mul-one, lit≤, pow_pos, shl_lt, ne_eqb}
+use Rattle.std.proofs.Common.{◌∙◌, subst, true≢false, lt_of_lt_of_le, le_of_lt, lt_irrefl, mul_assoc, mul_comm, mul-pos, mul-one}
+use Rattle.std.proofs.Common.{lit≤, pow_pos, shl_lt, ne_eqb}
 use lib.Ieee.{Float, nan, inf, fin, Format, binary64, up, down, round, div, of_int}
 use lib.Ieee.Back.{round_whole}
 use lib.Ieee.Exact.{HasValue, round_exact}
@@ -47,6 +48,7 @@ moved bound small =
 
 pub divided : (bound : ℕ) → bound < 2 ^ 32 → IsShare (div binary64 (of_int binary64 (pos bound)) (of_int binary64 (pos (2 ^ 30)))) bound
 divided bound small =
+    let a_double = whole bound (le_of_lt (lt_of_lt_of_le small (lit≤ tt))) in
     subst (λ (x : Float). IsShare x bound)
-    (sym (quotient binary64 _ _ bound (2 ^ 30) (pow_pos 30) (whole bound (le_of_lt (lt_of_lt_of_le small (lit≤ tt)))) (whole (2 ^ 30) (lit≤ tt))))
+    (sym (quotient binary64 _ _ bound (2 ^ 30) (pow_pos 30) a_double (whole (2 ^ 30) (lit≤ tt))))
     (moved bound small)

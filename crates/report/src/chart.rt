@@ -10,11 +10,10 @@ pub struct ChartPoint {
     pub upper: f64,
 }
 
-impl ChartPoint {
-    pub fn of_pair(pair: Pair) -> ChartPoint
-        ensures lower { IsShare result.lower pair.lower }
-        ensures upper { IsShare result.upper pair.upper }
-    {
+impl From<Pair> for ChartPoint {
+    ghost from_gives = { λ pair point. IsShare point.lower pair.lower × IsShare point.upper pair.upper };
+
+    fn from(pair: Pair) -> ChartPoint {
         ChartPoint {
             lower: share(pair.lower),
             upper: share(pair.upper),

@@ -15,7 +15,7 @@ pub use chart::ChartPoint;
 #[cfg(test)]
 mod tests;
 
-// A refusal, by its number and the offset of its record.
+// A refusal, by its number, since the faults of every layer are told so, and the offset of its record.
 pub fn refusal_line(heap: Global, number: u16, offset: usize) -> Result<String, AllocError>
     ensures { IfOk result (λ line. string_bytes line ≡ refusal_line_lem number offset) }
 {

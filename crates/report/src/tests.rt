@@ -45,7 +45,7 @@ fn answers_are_written_to_the_byte(rt: HostRuntime) -> Result<(), Fail> {
 }
 
 fn point_of(lower: u32, upper: u32) -> ChartPoint {
-    ChartPoint::of_pair(Pair { lower, upper })
+    ChartPoint::from(Pair { lower, upper })
 }
 
 fn point(lower: f64, upper: f64) -> ChartPoint {

@@ -1,37 +1,25 @@
--- What stands in the slots as copies of an item are written behind the filled ones.
-use Rattle.std.proofs.Common.{◌≡◌, ℕ, ◌+◌, ◌-◌, ◌<◌, ◌≤◌, max, List, ◌++◌, length, take, drop, set, replicate, sym, ap, ◌∙◌, ap₂, arith}
-use lib.ListN.{length-replicate}
-use lib.Seq.{paste}
+-- What stands in a slice that a closure which answers one item has filled.
+use Rattle.std.proofs.Common.{◌≡◌, ℕ, ◌+◌, ◌-◌, ◌<◌, ◌≤◌, max, List, [], ◌∷◌, ◌++◌, length, take, drop, replicate, refl, ap, ◌∙◌, ap₂, arith, length-take, length-drop}
+use Rattle.std.specs.List.{FoldsTo}
+use Rattle.std.proofs.lemmas.List.{drop-drop}
 use Rattle.roll.specs.Roll.{padded}
-use Rattle.std.proofs.lemmas.List.Edits.{paste_none, paste_all, fill_from_more, length-paste}
+use borrow.Rule.Slice.PartMut.{put_mid}
 
--- the slots once copies stand up to a place
-abbrev pub written : {A : Type 0} → List A → ℕ → A → ℕ → List A
-written slots filled item place = paste slots filled (replicate (place - filled) item) (place - filled)
+pub filled_with : {P A : Type 0} (answers : P → A → P → Type 0) (item_of : P → A)
+    → ((p : P) (x : A) (q : P) → answers p x q → (x ≡ item_of p) × (item_of q ≡ item_of p))
+    → (xs : List A) (p q : P) → FoldsTo answers p xs q → xs ≡ replicate (length xs) (item_of p)
+filled_with answers item_of same [] p q ran = refl
+filled_with answers item_of same (x ∷ xs) p q ran =
+    let here = same p x ran.0 ran.1 in
+    let later = filled_with answers item_of same xs ran.0 q ran.2 in
+    ap₂ (λ y ys. y ∷ ys) here.0 (later ∙ ap (replicate (length xs)) here.1)
 
-module _ {A : Type 0} (slots : List A) (filled : ℕ) (item : A) where
-  pub written_none : slots ≡ written slots filled item filled
-  written_none =
-      let none : filled - filled ≡ 0 = omega arith in
-      paste_none slots filled (replicate 0 item) ∙ sym (ap (λ n. paste slots filled (replicate n item) n) none)
-
-  pub length-written : (place : ℕ) → filled ≤ place → place ≤ length slots → length (written slots filled item place) ≡ length slots
-  length-written place from within =
-      length-paste slots filled (replicate (place - filled) item) (place - filled) (omega arith)
-      (omega (arith, length-replicate (place - filled) item))
-
-  pub written_more : (place : ℕ) → filled ≤ place → place < length slots
-      → set (written slots filled item place) place item ≡ written slots filled item (place + 1)
-  written_more place from within =
-      let here : filled + (place - filled) ≡ place = omega arith in
-      let next : (place - filled) + 1 ≡ (place + 1) - filled = omega arith in
-      ap (λ p. set (written slots filled item place) p item) (sym here)
-      ∙ (fill_from_more slots filled (place - filled) item (omega arith)
-      ∙ ap (λ n. paste slots filled (replicate n item) n) next)
-
-  pub written_all : (place count : ℕ) → place ≡ max filled count → written slots filled item place ≡ padded slots filled count item
-  written_all place count last =
-      let some : place - filled ≡ count - filled = omega arith in
-      let behind : filled + (place - filled) ≡ max filled count = omega arith in
-      paste_all slots filled (replicate (place - filled) item) (place - filled) (sym (length-replicate (place - filled) item))
-      ∙ ap₂ (λ n from. take filled slots ++ (replicate n item ++ drop from slots)) some behind
+-- copies in the place of the slots from the filled ones to the count
+pub padded_by : {A : Type 0} (slots copies : List A) (filled count : ℕ) (item : A)
+    → filled < count → count ≤ length slots → length copies ≡ length (take (count - filled) (drop filled slots))
+    → copies ≡ replicate (length copies) item → put_mid filled (count - filled) slots copies ≡ padded slots filled count item
+padded_by slots copies filled count item more fits long same =
+    let gap : length copies ≡ count - filled = omega (arith, long, length-take (count - filled) (drop filled slots), length-drop filled slots) in
+    let last : filled + (count - filled) ≡ max filled count = omega arith in
+    ap₂ (λ ys later. take filled slots ++ (ys ++ later)) (same ∙ ap (λ n. replicate n item) gap)
+    (drop-drop (count - filled) filled slots ∙ ap (λ n. drop n slots) last)

@@ -3,17 +3,15 @@ ghost use Rattle.roll.specs.Fault.{fault_number};
 
 #[derive(Clone, Copy, PartialEq, Eq, Debug)]
 pub enum RollFault {
-    Full,
-    NotFilled,
+    Full = 101,
+    NotFilled = 102,
 }
 
-impl RollFault {
-    pub fn number(self) -> u16
-        ensures { result ≡ fault_number self }
-    {
-        match self {
-            RollFault::Full => 101,
-            RollFault::NotFilled => 102,
-        }
+// For this enum alone: one `From` of `u16` for all layers' faults can't be written outside std.
+impl From<RollFault> for u16 {
+    ghost from_gives = { λ fault number. number ≡ fault_number fault };
+
+    fn from(fault: RollFault) -> u16 {
+        fault as u16
     }
 }

@@ -27,8 +27,8 @@ fn puts_reads_and_empties(rt: HostRuntime) {
     assert_eq!(rt; roll.items(), [5, 6].as_slice());
     roll.empty();
     assert_eq!(rt; roll.read(0), Err(RollFault::NotFilled));
-    assert_eq!(rt; RollFault::Full.number(), 101);
-    assert_eq!(rt; RollFault::NotFilled.number(), 102);
+    assert_eq!(rt; u16::from(RollFault::Full), 101);
+    assert_eq!(rt; u16::from(RollFault::NotFilled), 102);
     assert_eq!(rt; slots, [5, 6]);
 }
 

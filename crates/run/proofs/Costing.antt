@@ -1,6 +1,6 @@
 -- The loop that gathers what each surplus costs, and how many levels are known then.
 use Rattle.std.proofs.Common.{◌≡◌, ℕ, zero, suc, ◌+◌, ◌-◌, ◌<◌, ◌≤◌, Bool, true, false, ltb, ◌≢◌, List, length, get_or, set}
-use Rattle.std.proofs.Common.{ℤ, pos, neg_ℤ, Some, None, count_by, Option, sym, refl, ap, ◌∙◌, ⊎_elim, arith, get_or-set_other, get_or-set_same, below_more}
+use Rattle.std.proofs.Common.{ℤ, pos, neg_ℤ, Some, None, count_by, Option, sym, refl, ap, ◌∙◌, ⊎_elim, arith, get_or-set_other, get_or-set_same, length-set, below_more}
 use Rattle.capital.specs.Laws.{Rising}
 use Rattle.run.proofs.Costs.{surplus_left, surplus_ruined}
 use Rattle.run.proofs.Paths.{Falling, counting_falling, rising-falls}
@@ -9,6 +9,7 @@ use Rattle.run.specs.Gathered.{reaches, cost_pair}
 use Rattle.run.specs.declared.pair.Pair.{Pair}
 use Rattle.std.proofs.lemmas.Bool.{cases_lt}
 use Rattle.std.proofs.lemmas.Bool.Decides.{nat_tests}
+use Rattle.std.proofs.lemmas.Option.{none-some}
 use Rattle.std.specs.List.{range_with_len}
 use Rattle.std.specs.Bool.{then_some}
 use Rattle.units.specs.Surplus.{surplus_of}
@@ -32,14 +33,15 @@ module _ (carried priced : ℕ → ℕ) (board : List Pair) (known largest : ℕ
   pub record Costing (level : ℕ) (costs : List Pair) : Type 0 where
     pub reached : (x : ℕ) → x < level → reaches carried known (surplus_of x largest) ≡ true
     pub gathered : (x : ℕ) → x < level → get_or costs x nil ≡ cost_pair carried priced board (surplus_of x largest)
+    pub room : length costs ≡ 12288
 
   found : (reached : Bool) (cost pair : Pair) → Some pair ≡ then_some reached cost → (reached ≡ true) × (pair ≡ cost)
   found true cost pair there = (refl, cc)
-  found false cost pair there = let z : ◌≡◌ {A = ℕ} 0 1 = cc in absurd (omega arith)
+  found false cost pair there = absurd (none-some pair (sym there))
 
   pub costing_more :
       (level : ℕ) (end : ℤ) → end ≡ surplus_of level largest → (costs : List Pair) (pair : Pair)
-      → level < length costs → Costing level costs → Some pair ≡ told end
+      → level < 12288 → Costing level costs → Some pair ≡ told end
       → Costing (level + 1) (set costs level pair)
   costing_more level end is costs pair within inv there =
       let here = found (reaches carried known (surplus_of level largest)) (cost_pair carried priced board (surplus_of level largest)) pair (there ∙ ap told is) in
@@ -47,7 +49,8 @@ module _ (carried priced : ℕ → ℕ) (board : List Pair) (known largest : ℕ
         reached = below_more _ _ inv.reached here.0;
         gathered = below_more _ _
             (λ x h. let ne : x ≢ level = omega arith in rw get_or-set_other (inv.gathered x h))
-            (rw get_or-set_same here.1);
+            (let lt : level < length costs = omega (arith, inv.room) in rw get_or-set_same here.1);
+        room = length-set costs level pair ∙ inv.room;
       }
 
   reaches-left : (u : ℕ) → reaches carried known (surplus_of (largest + u) largest) ≡ ltb (carried (u + 1)) known
@@ -63,7 +66,7 @@ module _ (carried priced : ℕ → ℕ) (board : List Pair) (known largest : ℕ
       at_deficit (suc d) = refl
 
   not_found : (reached : Bool) (cost : Pair) → None ≡ then_some reached cost → reached ≡ false
-  not_found true cost none = let z : ◌≡◌ {A = ℕ} 0 1 = cc in absurd (omega arith)
+  not_found true cost none = absurd (none-some cost none)
   not_found false cost none = refl
 
   stops_at : (level : ℕ) (end : ℤ) → end ≡ surplus_of level largest → None ≡ told end → reaches carried known (surplus_of level largest) ≡ false

@@ -1,9 +1,11 @@
 -- The loop that gathers the weights below the cut: what it keeps, its start, a turn and its end.
 use Rattle.std.proofs.Common.{◌≡◌, ℕ, zero, suc, ◌+◌, ◌-◌, ◌<◌, ◌≤◌, ◌≢◌, List, [], ◌∷◌, length}
-use Rattle.std.proofs.Common.{get_or, drop, set, Some, sym, refl, ap, ◌∙◌, subst, arith, get_or-set_other, get_or-set_same, below_more}
+use Rattle.std.proofs.Common.{get_or, drop, set, Some, sym, refl, ap, ◌∙◌, subst, arith, get_or-set_other, get_or-set_same, length-set, below_more}
 use Rattle.claims.specs.Law.{Lawful, total}
 use Rattle.claims.proofs.Lookup.{tail_more}
 use Rattle.std.proofs.lemmas.Bool.Decides.{nat_tests}
+use Rattle.std.proofs.lemmas.List.{drop_all}
+use Rattle.std.proofs.lemmas.Option.{get_or_from_slice_get}
 use Rattle.run.proofs.Sums.{cut-rest, before_cut}
 use Rattle.run.specs.Period.{cut, LeastCut, weight_at}
 use Rattle.std.specs.List.{slice_get}
@@ -15,6 +17,7 @@ pub record Weighing (weights : List Weight) (allowance amounts tail : ℕ) (slot
   pub within : amounts ≤ length weights
   pub cut_is : cut allowance weights ≡ amounts + cut allowance (drop amounts weights)
   pub gathered : (j : ℕ) → j < amounts → get_or slots (4095 - j) 0 ≡ weight_at weights j
+  pub room : length slots ≡ 4096
 
 cut_on :
     (allowance : ℕ) (weights : List Weight) (i : ℕ) → i < length weights → allowance < total (drop i weights)
@@ -29,17 +32,12 @@ cut_here : (allowance : ℕ) (weights : List Weight) → total weights ≤ allow
 cut_here allowance [] fits = refl
 cut_here allowance (first ∷ later) fits = grind (arith, nat_tests)
 
-weight_here : (weights : List Weight) (i : ℕ) (weight : Weight) → Some weight ≡ slice_get weights i → weight_at weights i ≡ weight.0
-weight_here [] i weight there = let z : ◌≡◌ {A = ℕ} 0 1 = cc in absurd (omega arith)
-weight_here (first ∷ later) zero weight there = let same : weight ≡ first = cc in ap (λ w. w.0) (sym same)
-weight_here (first ∷ later) (suc i) weight there = weight_here later i weight there
-
 module _ (weights : List Weight) (allowance : ℕ) (lawful : Lawful weights) where
   pub weighing_more :
-      (amounts tail : ℕ) (slots : List ℕ) (weight : Weight) → length slots ≡ 4096 → Weighing weights allowance amounts tail slots
+      (amounts tail : ℕ) (slots : List ℕ) (weight : Weight) → Weighing weights allowance amounts tail slots
       → allowance < tail → Some weight ≡ slice_get weights amounts
       → Weighing weights allowance (amounts + 1) (tail - weight.0) (set slots (4095 - amounts) weight.0)
-  weighing_more amounts tail slots weight long inv above there =
+  weighing_more amounts tail slots weight inv above there =
       let more = tail_more weights amounts weight there in
       let on = cut_on allowance weights amounts more.0 (omega (arith, inv.tail_is)) in
       record {
@@ -49,7 +47,10 @@ module _ (weights : List Weight) (allowance : ℕ) (lawful : Lawful weights) whe
         gathered =
             below_more _ _
             (λ j h. let ne : 4095 - j ≢ 4095 - amounts = omega (arith, more.0, lawful.few) in rw get_or-set_other (inv.gathered j h))
-            (let lt : 4095 - amounts < length slots = omega arith in rw get_or-set_same (sym (weight_here weights amounts weight there)));
+            (let lt : 4095 - amounts < length slots = omega (arith, inv.room) in
+            let here = get_or_from_slice_get weights amounts weight (record { 0 = 0 }) (sym there) in
+            rw get_or-set_same (ap (λ w. w.0) (sym here)));
+        room = length-set slots (4095 - amounts) weight.0 ∙ inv.room;
       }
 
   pub weighing_all :
@@ -64,3 +65,11 @@ module _ (weights : List Weight) (allowance : ℕ) (lawful : Lawful weights) whe
   weighing_least amounts tail slots inv fits =
       subst (LeastCut allowance weights) (sym (weighing_all amounts tail slots inv fits))
       (record { rest = cut-rest allowance weights; least = before_cut allowance weights })
+
+  -- a law has no amount from 4,096 on, so that nothing is left after so many
+  pub weighing_ends : (amounts tail : ℕ) (slots : List ℕ) → amounts ≡ 4096 → Weighing weights allowance amounts tail slots
+      → Weighing weights allowance 4096 tail slots × (tail ≤ allowance)
+  weighing_ends amounts tail slots all inv = (
+    subst (λ n. Weighing weights allowance n tail slots) all inv,
+    omega (arith, inv.tail_is, ap total (drop_all amounts weights (omega (arith, lawful.few)))),
+  )

@@ -14,7 +14,7 @@ use Rattle.run.specs.History.{known_with, row_with, dropped_by, ledger_pair, led
 use Rattle.run.specs.Period.{Period, Meaningful, dropped}
 use Rattle.run.specs.declared.answer.Answer.{Answer}
 use Rattle.run.specs.declared.fault.RunFault.{RunFault}
-use Rattle.run.specs.declared.fault.RunFault.TheVariants.{LengthRange, ListShort, AllowanceRange}
+use Rattle.run.specs.declared.fault.RunFault.TheVariants.{ListShort, AllowanceRange}
 use Rattle.run.specs.declared.fault.RunFault.TheVariants.{NoneKnown, LevelUnknown, PeriodsFull}
 use Rattle.run.specs.declared.pair.Pair.{Pair}
 use Rattle.std.proofs.lemmas.List.{get_or-take, length-take-le, take_at}
@@ -72,9 +72,7 @@ advanced_as_long period held room =
 -- checks that find no fault have passed the second of them, which both calls ask of the lengths
 second_passed : {F : Type 0} (first second : Bool) (f g : F) (later : Option F)
     → cond first (Some f) (cond second (Some g) later) ≡ None → second ≡ false
-second_passed true second f g later e = absurd (true≢false (ap is_some e))
-second_passed false true f g later e = absurd (true≢false (ap is_some e))
-second_passed false false f g later e = refl
+second_passed first second f g later e = grind arith
 
 left-either : {F A : Type 0} (P : A → Type 0) (fault : Option F) (next before : A) → (fault ≡ None → P next) → P before
     → P (left_unless fault next before)
@@ -144,12 +142,7 @@ either_follows (Some fault) false ledger next held later e old new = absurd (tru
 
 module _ (long : ℕ) (held : Held) where
   open_refused : is_some (open_fault long held) ≡ (outside 2 8192 long || too_short long held)
-  open_refused = by (outside 2 8192 long) (too_short long held)
-    where
-      by : (a b : Bool) → is_some (cond a (Some LengthRange) (cond b (Some ListShort) None)) ≡ (a || b)
-      by true b = refl
-      by false true = refl
-      by false false = refl
+  open_refused = grind (arith, nat_tests)
 
   opened_follows : (outside 2 8192 long || too_short long held) ≡ false → Follows (holds long []) (opened long held)
   opened_follows e =
@@ -176,8 +169,7 @@ module _ (long : ℕ) (held : Held) where
       held (opened long held) open_refused follows opened_follows
 
 cond-not : (t : Bool) (x y : Ledger) → cond (not t) x y ≡ cond t y x
-cond-not true x y = refl
-cond-not false x y = refl
+cond-not t x y = grind arith
 
 -- the checks of an advance on an open run, by numbers
 refused_by_numbers : (periods allowance known : ℕ) (short stays : Bool) → short ≡ false → ltb 0 known ≡ stays
@@ -193,17 +185,17 @@ held_as long periods board spare = record { run = kept_by (holds long periods); 
 
 module _ (period : Period) (meaningful : Meaningful period)
     (long : ℕ) (periods : List Period) (board spare : List Pair) where
-  abbrev held : Held
-  held = held_as long periods board spare
+  abbrev before : Held
+  before = held_as long periods board spare
 
   advance_refused : Stands long periods board spare
-      → is_some (advance_fault period held) ≡ not (addable long period periods)
+      → is_some (advance_fault period before) ≡ not (addable long period periods)
   advance_refused stands =
-      refused_by_numbers (length periods) period.allowance (known_with long (period ∷ periods)) (too_short long held)
-      (stays_on long (period ∷ periods) 0) (room-tells long held stands.room)
+      refused_by_numbers (length periods) period.allowance (known_with long (period ∷ periods)) (too_short long before)
+      (stays_on long (period ∷ periods) 0) (room-tells long before stands.room)
       (known-stays long stands.most (period ∷ periods) (meaningful, stands.meaningful) 0)
 
-  kept_more : (advanced period held).run ≡ kept_by (holds long (period ∷ periods))
+  kept_more : (advanced period before).run ≡ kept_by (holds long (period ∷ periods))
   kept_more =
       let kept : ℕ → ℕ → Kept = λ count total. record {
         is_open = true;
@@ -214,20 +206,20 @@ module _ (period : Period) (meaningful : Meaningful period)
       } in
       ap₂ kept (omega arith) (omega (arith, sum_by-cons dropped period periods))
 
-  row_more : Stands long periods board spare → take long (advanced period held).board ≡ row_with long (period ∷ periods)
+  row_more : Stands long periods board spare → take long (advanced period before).board ≡ row_with long (period ∷ periods)
   row_more stands =
       let known = known_with long periods in
       take_at (row_after long known period board) (drop long board) long (length-row_after long known period board)
       ∙ row_same meaningful stands.most known board (row_with long periods) (known_at long periods board spare stands)
 
   advanced_follows : Stands long periods board spare → not (addable long period periods) ≡ false
-      → Follows (holds long (period ∷ periods)) (advanced period held)
+      → Follows (holds long (period ∷ periods)) (advanced period before)
   advanced_follows stands e =
       let stays = stays_on long (period ∷ periods) 0 in
       let added = not-false (addable long period periods) e in
       let parts = and_parts (leb period.allowance (2 ^ 20)) (ltb (length periods) 4095 && stays) added in
       let count = (and_parts (ltb (length periods) 4095) stays parts.1).0 in
-      let same = advanced_as_long period held stands.room in
+      let same = advanced_as_long period before stands.room in
       record {
         run = kept_more;
         standing = record {
@@ -242,12 +234,12 @@ module _ (period : Period) (meaningful : Meaningful period)
 
   advance_follows : Stands long periods board spare
       → Follows (noted (length board) (length spare) (advances period) (holds long periods))
-      (after (advances period) held)
+      (after (advances period) before)
   advance_follows stands =
-      subst (λ ledger. Follows ledger (after (advances period) held))
+      subst (λ ledger. Follows ledger (after (advances period) before))
       (cond-not (addable long period periods) (holds long periods) (holds long (period ∷ periods)))
-      (either_follows (advance_fault period held) (not (addable long period periods)) (holds long periods)
-      (holds long (period ∷ periods)) held (advanced period held) (advance_refused stands)
+      (either_follows (advance_fault period before) (not (addable long period periods)) (holds long periods)
+      (holds long (period ∷ periods)) before (advanced period before) (advance_refused stands)
       (record { run = refl; standing = stands }) (advanced_follows stands))
 
 pub call_follows : (call : Call) → Proper call → (ledger : Ledger) (held : Held) → Follows ledger held

@@ -124,6 +124,13 @@ module _ {period : Period} (meaningful : Meaningful period) (known u : ℕ) (on 
       (weighed-same (λ v. (f v).lower) (λ v. (g v).lower) (λ v h. ap (λ pair. pair.lower) (same v h)))
       (weighed-same (λ v. (f v).upper) (λ v. (g v).upper) (λ v h. ap (λ pair. pair.upper) (same v h)))
 
+-- functions that give the same below n give the same list
+pub map_same :
+    (f g : ℕ → Pair) (n : ℕ) → ((u : ℕ) → u < n → f u ≡ g u) → map f (range_with_len 0 n) ≡ map g (range_with_len 0 n)
+map_same f g n same =
+    fill_by_all g (map f (range_with_len 0 n)) n nil (length-map-range_with_len f 0 n)
+    (λ u h. get_or-map-range_with_len f 0 n u u nil h (omega arith) ∙ same u h)
+
 -- what a function gives below k, then nothing up to n
 module _ (k n : ℕ) where
   abbrev padded : (ℕ → Pair) → List Pair
@@ -139,10 +146,7 @@ module _ (k n : ℕ) where
   length-padded f h = simp (length-append, length-map-range_with_len, length-replicate) (omega arith)
 
   padded-same : (f g : ℕ → Pair) → ((u : ℕ) → u < k → f u ≡ g u) → padded f ≡ padded g
-  padded-same f g same =
-      ap (λ front. front ++ replicate (n - k) nil)
-      (fill_by_all g (map f (range_with_len 0 k)) k nil (length-map-range_with_len f 0 k)
-      (λ u h. get_or-map-range_with_len f 0 k u u nil h (omega arith) ∙ same u h))
+  padded-same f g same = ap (λ front. front ++ replicate (n - k) nil) (map_same f g k same)
 
 module _ {long : ℕ} {period : Period} (meaningful : Meaningful period) (most : long ≤ 8192) (known : ℕ) where
   pub known-leads : (u : ℕ) → u < known_after long known period → (u < long) × (period.carried (u + 1) < known)
@@ -168,10 +172,6 @@ pub length-row_after : (long known : ℕ) (period : Period) (old : List Pair)
     → length (row_after long known period old) ≡ long
 length-row_after long known period old =
     length-padded (known_after long known period) long (pair_at period old) (known-after_le long known period)
-
-pub length-row : (long : ℕ) (periods : List Period) → length (row_with long periods) ≡ long
-length-row long [] = length-replicate long nil
-length-row long (period ∷ later) = length-row_after long (known_with long later) period (row_with long later)
 
 abbrev pub bounds_with : List Period → ℕ → Pair
 bounds_with periods u = record { lower = lower_with periods u; upper = upper_with periods u }

@@ -2,12 +2,12 @@
 use Rattle.std.proofs.Common.{◌≡◌, ℕ, ◌+◌, ◌-◌, ◌*◌, ◌/◌, ◌<◌, ◌≤◌, false, cond, eqb, List, ◌++◌, map, length, get_or, drop, replicate, ℤ, sym, refl, ap, ◌∙◌, ap₂, append_assoc, arith}
 use borrow.Rule.Slice.PartMut.{put_mid}
 use Rattle.claims.specs.Law.{Lawful, total}
+use Rattle.run.proofs.Paths.{map_same}
 use Rattle.run.proofs.Sums.{below-same, below-backward, weights_split}
 use Rattle.run.specs.Advance.{sum_below, nil, weighed, pair_at}
 use Rattle.run.specs.Gathered.{cost_pair, pair_from}
 use Rattle.run.specs.Period.{Period, period_of, weight_at, cut, cost, dropped}
 use Rattle.run.specs.declared.pair.Pair.{Pair}
-use Rattle.std.proofs.lemmas.List.FromFn.{fill_by_all, length-map-range_with_len, get_or-map-range_with_len}
 use Rattle.std.proofs.lemmas.List.Edits.{length-between, get_or-between}
 use Rattle.std.proofs.lemmas.List.{take_at, drop_at, drop-drop}
 use Rattle.std.proofs.lemmas.Int.{ints}
@@ -17,12 +17,6 @@ use Rattle.std.specs.List.{range_with_len, between}
 use Rattle.units.specs.One.{one}
 use Rattle.units.specs.Surplus.{surplus_of}
 use Rattle.units.specs.declared.Weight.{Weight}
-
-map_same :
-    (f g : ℕ → Pair) (n : ℕ) → ((u : ℕ) → u < n → f u ≡ g u) → map f (range_with_len 0 n) ≡ map g (range_with_len 0 n)
-map_same f g n same =
-    fill_by_all g (map f (range_with_len 0 n)) n nil (length-map-range_with_len f 0 n)
-    (λ u h. get_or-map-range_with_len f 0 n u u nil h (omega arith) ∙ same u h)
 
 -- the surplus of a place in the array is that of its amount at the level
 same_surplus : (u i q : ℕ) → i < q → surplus_of (u + i) (q - 1) ≡ surplus_of u (q - 1 - i)

@@ -19,27 +19,22 @@ pub record Summed (weights : List ℕ) (bound : ℕ → ℕ) (i sum : ℕ) : Typ
   pub fits : sum ≤ sum_below i (λ k. get_or weights k 0) * largest
 
 summed_more :
-    (weights : List ℕ) (bound : ℕ → ℕ) (i sum : ℕ) → bound i ≤ largest → Summed weights bound i sum
-    → Summed weights bound (i + 1) (sum + get_or weights i 0 * bound i)
-summed_more weights bound i sum small inv =
+    (weights : List ℕ) (bound : ℕ → ℕ) (i sum weight cost : ℕ) → weight ≡ get_or weights i 0 → cost ≡ bound i → cost < 2 ^ 32
+    → Summed weights bound i sum → Summed weights bound (i + 1) (sum + weight * cost)
+summed_more weights bound i sum weight cost weighs costs small inv =
+    let below : cost ≤ largest = omega arith in
     record {
-      sum_is = omega (arith, inv.sum_is, below_step i (λ k. get_or weights k 0 * bound k));
-      fits = omega (arith, inv.fits, below_step i (λ k. get_or weights k 0), mul-le-mul_left (get_or weights i 0) small);
+      sum_is = omega (arith, inv.sum_is, below_step i (λ k. get_or weights k 0 * bound k), ap₂ ◌*◌ weighs costs);
+      fits = omega (arith, inv.fits, below_step i (λ k. get_or weights k 0), ap (λ w. w * largest) weighs, mul-le-mul_left weight below);
     }
 
 -- with weights that sum to at most ONE no sum of the loop passes ONE times the largest bound
 pub term_fits :
-    (weights : List ℕ) (bound : ℕ → ℕ) (n rest i sum : ℕ) → i < n → sum_below n (λ k. get_or weights k 0) + rest ≤ one
-    → bound i < 2 ^ 32 → Summed weights bound i sum → sum + get_or weights i 0 * bound i ≤ one * largest
-term_fits weights bound n rest i sum h whole small inv =
-    omega (arith, (summed_more weights bound i sum (omega arith) inv).fits, below-front (i + 1) n (λ k. get_or weights k 0) (omega arith))
-
--- and so the bounds of a level fit 32 bits again, the weight left out in the upper one
-pub sum_fits :
-    (weights : List ℕ) (bound : ℕ → ℕ) (n dropped i sum : ℕ) → i ≤ n → sum_below n (λ k. get_or weights k 0) + dropped ≤ one
-    → Summed weights bound i sum → sum + dropped * one ≤ one * largest
-sum_fits weights bound n dropped i sum h whole inv =
-    omega (arith, inv.fits, below-front i n (λ k. get_or weights k 0) h)
+    (weights : List ℕ) (bound : ℕ → ℕ) (rest i sum weight cost : ℕ) → i < length weights
+    → sum_below (length weights) (λ k. get_or weights k 0) + rest ≤ one
+    → weight ≡ get_or weights i 0 → cost ≡ bound i → cost < 2 ^ 32 → Summed weights bound i sum → sum + weight * cost ≤ one * largest
+term_fits weights bound rest i sum weight cost h whole weighs costs small inv =
+    omega (arith, (summed_more weights bound i sum weight cost weighs costs small inv).fits, below-front (i + 1) (length weights) (λ k. get_or weights k 0) (omega arith))
 
 -- both sums of a level after i terms
 pub record Weighed (weights : List ℕ) (costs : List Pair) (place i lower upper : ℕ) : Type 0 where
@@ -52,11 +47,11 @@ module _ (weights : List ℕ) (costs : List Pair) (place : ℕ) where
 
   module _ (i lower upper : ℕ) (inv : Weighed weights costs place i lower upper) where
     pub weighed_more :
-        (at i).lower < 2 ^ 32 → (at i).upper < 2 ^ 32
-        → Weighed weights costs place (i + 1) (lower + get_or weights i 0 * (at i).lower) (upper + get_or weights i 0 * (at i).upper)
-    weighed_more low high = record {
-      lowers = summed_more weights (λ k. (at k).lower) i lower (omega arith) inv.lowers;
-      uppers = summed_more weights (λ k. (at k).upper) i upper (omega arith) inv.uppers;
+        (weight : ℕ) (cost : Pair) → weight ≡ get_or weights i 0 → cost ≡ at i → cost.lower < 2 ^ 32 → cost.upper < 2 ^ 32
+        → Weighed weights costs place (i + 1) (lower + weight * cost.lower) (upper + weight * cost.upper)
+    weighed_more weight cost weighs is low high = record {
+      lowers = summed_more weights (λ k. (at k).lower) i lower weight cost.lower weighs (ap (λ pair. pair.lower) is) low inv.lowers;
+      uppers = summed_more weights (λ k. (at k).upper) i upper weight cost.upper weighs (ap (λ pair. pair.upper) is) high inv.uppers;
     }
 
     pub weighed_all :

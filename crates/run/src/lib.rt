@@ -6,13 +6,15 @@ mod caller;
 mod fault;
 mod figures;
 mod pair;
+mod period;
 mod run;
 
 pub use answer::{Answer, Dropped};
 pub use caller::one_period;
 pub use fault::RunFault;
 pub use figures::figure_count;
-pub use pair::Pair;
+pub use pair::{NIL, Pair};
+pub use period::Period;
 pub use run::Run;
 
 #[cfg(test)]

@@ -5,4 +5,5 @@ pub struct Pair {
     pub upper: u32,
 }
 
+// What a level has before a period, and an unknown one.
 pub const NIL: Pair = Pair { lower: 0, upper: 0 };

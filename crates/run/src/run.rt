@@ -3,10 +3,16 @@ ghost use Rattle.std.specs.Prelude.{◌*◌, ◌^◌, ◌≤◌};
 pub mod advance;
 pub mod calls;
 
-// What is kept of a run between its calls; the pairs are on the caller's board.
+// What is kept of a run between its calls; the pairs are on the caller's board. Before the first open there is nothing.
+// Board and spare come with each call: a struct of both would have to promise each time that they are still the lent ones.
 #[derive(Clone, Copy)]
 pub struct Run {
-    opened: bool,
+    opened: Option<Opened>,
+}
+
+// The numbers of an open run.
+#[derive(Clone, Copy)]
+struct Opened {
     long: u16,
     known: u16,
     periods: u16,

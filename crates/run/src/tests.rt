@@ -1,10 +1,9 @@
+use crate::pair::NIL;
 use crate::*;
 use capital::{AnyRuin, Plain};
 use claims::Table;
 use std::test::Fail;
 use units::{Level, Periods, Weight};
-
-const NIL: Pair = Pair { lower: 0, upper: 0 };
 
 fn answer(bound: u32, periods: u16) -> Result<Answer, RunFault> {
     Ok(Answer {
@@ -26,7 +25,13 @@ fn add_period(
     let list = [Weight(1 << 29), Weight(0), Weight(1 << 29)];
     let mut law = Table::calm();
     let _ = law.load(&list);
-    run.advance(board, spare, &law, &Plain, &AnyRuin, Weight(allowance))
+    let period = Period {
+        law: &law,
+        rule: &Plain,
+        penalty: &AnyRuin,
+        allowance: Weight(allowance),
+    };
+    run.advance(board, spare, &period)
 }
 
 #[test]

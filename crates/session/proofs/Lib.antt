@@ -1,4 +1,3 @@
-pub mod Keeping
 pub mod Leading
 pub mod Nearing
 pub mod Placing

@@ -1,9 +1,7 @@
 -- The calls of the run that the records of a session make, and what a step tells beside their ledger. Assumes nothing.
-use Rattle.std.specs.Prelude.{cond, List, ◌∷◌, Some, None, Ok, Option}
-use Rattle.feed.specs.Walk.{over, next_record}
-use Rattle.feed.specs.declared.found.Found.{Found}
-use Rattle.feed.specs.declared.found.Found.TheVariants.{Record, Fault, End}
-use Rattle.feed.specs.declared.record.Record.{Record as Taken}
+use Rattle.std.specs.Prelude.{cond, List, ◌∷◌, Some, None, Ok, Err, Option}
+use Rattle.feed.specs.Walk.{Found, over, next_record}
+use Rattle.feed.specs.declared.record.Record.{Record}
 use Rattle.feed.specs.declared.record.Record.TheVariants.{Claim, EndLaw, ScrapLaw, SingleSize, Retain}
 use Rattle.feed.specs.declared.record.Record.TheVariants.{Plain, Floor, Barrier, AnyRuin, BelowDeficit}
 use Rattle.feed.specs.declared.record.Record.TheVariants.{Scaled, Allowance, Open, Advance, Ask}
@@ -15,7 +13,7 @@ use Rattle.session.specs.declared.entry.Entry.{Entry}
 use Rattle.session.specs.declared.entry.Entry.TheVariants.{Answer as Tells, Fault as Refuses}
 
 -- the call of the run that a record stands for
-abbrev pub call_of : Taken → State → Option Call
+abbrev pub call_of : Record → State → Option Call
 call_of (Claim amount weight) s = None
 call_of (EndLaw count) s = None
 call_of ScrapLaw s = None
@@ -34,9 +32,9 @@ call_of (Ask level) s = Some (asks level.0)
 
 -- a record that is not taken in its stage makes no call
 abbrev pub call_made : Found → State → Option Call
-call_made (Record r offset) s = cond (is_taken r s.law) (call_of r s) None
-call_made (Fault fault offset) s = None
-call_made End s = None
+call_made (Some (Ok taken)) s = cond (is_taken taken.0 s.law) (call_of taken.0 s) None
+call_made (Some (Err stop)) s = None
+call_made None s = None
 
 abbrev pub further : Option Call → List Call → List Call
 further None calls = calls

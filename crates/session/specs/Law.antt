@@ -1,5 +1,5 @@
 -- The law that a session is given, and the roll of its weights. Assumes nothing.
-use Rattle.std.specs.Prelude.{◌≡◌, ℕ, ◌+◌, ◌-◌, List, [], ◌∷◌, ◌++◌, length, take, drop, replicate, Some, None, Option, nat_le}
+use Rattle.std.specs.Prelude.{ℕ, ◌+◌, ◌-◌, List, [], ◌∷◌, ◌++◌, length, take, drop, replicate, Some, None, Option, nat_le}
 use Rattle.claims.specs.Draft.{Given, nothing_given, give_fault, given_also}
 use Rattle.roll.specs.declared.fault.RollFault.TheVariants.{Full}
 use Rattle.session.specs.declared.cause.Cause.{Cause}
@@ -63,7 +63,3 @@ placed row amount weight = record {
 
 abbrev pub claimed_row : Law → Row Weight → Amount → Weight → Row Weight
 claimed_row law row amount weight = placed (row_in law row) amount.0 weight
-
--- the slots that are filled are those below the least amount that may come next
-abbrev pub Aligned : Law → Row Weight → Type 0
-Aligned law row = (row_in law row).filled ≡ (given_in law).next

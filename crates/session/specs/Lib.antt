@@ -4,6 +4,7 @@ pub mod Law
 pub mod Parts
 pub mod Records
 pub mod Sound
+pub mod Stages
 pub mod Step
 pub mod Terms
 pub mod Views

@@ -11,8 +11,8 @@ use Rattle.std.proofs.lemmas.Bool.Decides.{nat_tests}
 
 pub carried-within : (rule : Rule) → Within (carried_by rule)
 carried-within Plain s least most = (least, most)
-carried-within (Floor floor) s least most = let low = floor.least in let high = floor.most in (omega arith, omega arith)
-carried-within (Barrier barrier) s least most = let low = barrier.least in let high = barrier.most in (omega arith, omega arith)
+carried-within (Floor floor) s least most = let low = floor.level.least in let high = floor.level.most in (omega arith, omega arith)
+carried-within (Barrier barrier) s least most = let low = barrier.level.least in let high = barrier.level.most in (omega arith, omega arith)
 
 pub carried-rising : (rule : Rule) → Rising (carried_by rule)
 carried-rising Plain s t least higher most = higher
@@ -22,4 +22,4 @@ carried-rising (Barrier barrier) s t least higher most = omega arith
 pub priced-bounded : (price : Price) → Bounded (priced_by price)
 priced-bounded AnyRuin d most = omega arith
 priced-bounded (Below below) d most = grind (arith, nat_tests)
-priced-bounded (Scaled scaled) d most = scaled-bounded d scaled.m scaled.most
+priced-bounded (Scaled scaled) d most = scaled-bounded d scaled.m.value scaled.m.most

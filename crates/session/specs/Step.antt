@@ -1,9 +1,7 @@
 -- One step of a session. Assumes nothing.
 use Rattle.std.specs.Prelude.{ℕ, ◌+◌, ◌<◌, Bool, cond, not, List, Some, None, Ok, Err, Option, Result}
-use Rattle.feed.specs.Walk.{Walk, Step, begun, left, over, next_record}
-use Rattle.feed.specs.declared.found.Found.{Found}
-use Rattle.feed.specs.declared.found.Found.TheVariants.{Record, Fault, End}
-use Rattle.feed.specs.declared.record.Record.{Record as Taken}
+use Rattle.feed.specs.Walk.{Walk, Step, Found, begun, left, over, next_record}
+use Rattle.feed.specs.declared.record.Record.{Record}
 use Rattle.roll.specs.Roll.{has_room, put_slots, put_filled}
 use Rattle.run.specs.Calls.{fresh_on}
 use Rattle.run.specs.declared.pair.Pair.{Pair}
@@ -56,19 +54,19 @@ entry_of offset None None = None
 entry_of offset None (Some answer) = Some (Tells answer)
 
 -- what a record tells
-abbrev pub told : Taken → ℕ → State → Option Entry
+abbrev pub told : Record → ℕ → State → Option Entry
 told r offset s = entry_of offset (record_fault r s) (answered r s)
 
 -- what stands next in the feed: what it tells, and what it makes of what the records work on
 abbrev pub told_found : Found → State → Option Entry
-told_found (Record r offset) s = told r offset s
-told_found (Fault fault offset) s = Some (Refuses (record { cause = Feed fault; offset = offset }))
-told_found End s = None
+told_found (Some (Ok taken)) s = told taken.0 taken.1 s
+told_found (Some (Err stop)) s = Some (Refuses (record { cause = Feed stop.0; offset = stop.1 }))
+told_found None s = None
 
 abbrev pub state_found : Found → State → State
-state_found (Record r offset) s = after_record r s
-state_found (Fault fault offset) s = s
-state_found End s = s
+state_found (Some (Ok taken)) s = after_record taken.0 s
+state_found (Some (Err stop)) s = s
+state_found None s = s
 
 abbrev pub taken : Step → View → View
 taken next view = record {

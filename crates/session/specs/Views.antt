@@ -2,8 +2,9 @@
 use Rattle.std.specs.Prelude.{◌≡◌, Option, Result}
 use Rattle.feed.specs.Walk.{walk_of}
 use Rattle.feed.specs.declared.record.Record.{Record}
-use Rattle.session.specs.Parts.{row_of, law_of, agreed_by, held_in}
-use Rattle.session.specs.Records.{State, own_fault, done, answered}
+use Rattle.session.specs.Parts.{law_of, agreed_by, held_in}
+use Rattle.session.specs.Stages.{row_of}
+use Rattle.session.specs.Records.{State, done, answered}
 use Rattle.session.specs.Step.{View}
 use Rattle.session.specs.declared.cause.Cause.{Cause}
 use Rattle.session.specs.declared.entry.Answered.{Answered}
@@ -36,7 +37,3 @@ pub record Acts (r : Record) (fault : Option Cause) (before after : Session) (an
   pub walk : walk_of after.reader ≡ walk_of before.reader
   pub log : row_of after.log ≡ row_of before.log
   pub lists : SameLists before after
-
--- a record that is taken in this stage
-abbrev pub ActsOwn : Record → Session → Session → Result (Option Answered) Cause → Type 0
-ActsOwn r before after answer = Acts r (own_fault r (state_of before)) before after answer

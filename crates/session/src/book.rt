@@ -2,8 +2,9 @@ ghost use Rattle.std.specs.Prelude.{◌≡◌, ◌<◌, ◌≤◌, length};
 ghost use Rattle.claims.specs.Draft.{end_fault};
 ghost use Rattle.claims.specs.Drafts.{given_by};
 ghost use Rattle.claims.specs.SingleSize.{single_fault, single_weights};
-ghost use Rattle.session.specs.Law.{no_law, whole_law, Aligned, items, emptied, row_in, placed, claim_fault, claimed_law, claimed_row};
-ghost use Rattle.session.specs.Parts.{row_of, law_of};
+ghost use Rattle.session.specs.Law.{no_law, whole_law, items, emptied, placed, given_in, claim_fault, claimed_law, claimed_row};
+ghost use Rattle.session.specs.Sound.{Sound};
+ghost use Rattle.session.specs.Stages.{row_of, law_by};
 ghost use Rattle.units.specs.Checks.{answer_unless, left_unless};
 
 use crate::cause::Cause;
@@ -11,7 +12,7 @@ use claims::{Draft, LawFault, SingleSize};
 use roll::{Roll, RollFault};
 use units::{Amount, Weight};
 
-// Where the weights of a whole law are.
+// Where the weights of a whole law are. Not an Option: the listed ones are a law too.
 #[derive(Clone, Copy)]
 pub enum Source {
     Listed,
@@ -31,9 +32,23 @@ pub enum Stage {
 pub struct Book<'a> {
     pub stage: Stage,
     pub weights: Roll<'a, Weight>,
+    ghost sound: { Sound (law_by stage (items (row_of weights))) (row_of weights) },
+}
+
+// Puts the weight at its amount, and blanks at the amounts between that were not given.
+fn place(weights: &mut Roll<'_, Weight>, amount: Amount, weight: Weight)
+    requires below { weights.old.filled ≤ amount.0 }
+    requires room { amount.0 < length weights.old.slots.now }
+    ensures weights { row_of weights.new ≡ placed (row_of weights.old) amount.0 weight }
+    ensures lent { weights.new.slots.ghost_name ≡ weights.old.slots.ghost_name }
+{
+    weights.pad(usize::from(amount.0), Weight(0)).unwrap();
+    weights.put(weight).unwrap();
 }
 
 impl<'a> Book<'a> {
+    ghost use Rattle.session.specs.Parts.{law_of};
+
     pub fn new(slots: &'a mut [Weight]) -> Book<'a>
         ensures law { law_of result ≡ no_law }
         ensures weights { row_of result.weights ≡ record { slots = slots.entry.now; filled = 0 } }
@@ -45,62 +60,46 @@ impl<'a> Book<'a> {
         }
     }
 
-    // One weight more; outside part law it begins a new law.
+    // What is given of the law; outside part law nothing is.
+    fn draft(&self) -> Draft
+        ensures { given_by result ≡ given_in (law_of self.now) }
+    {
+        match self.stage {
+            Stage::PartLaw(draft) => draft,
+            Stage::NoLaw | Stage::WholeLaw(_) => Draft::begin(),
+        }
+    }
+
+    // One weight more; outside part law it begins a new law, on the emptied roll.
     pub fn claim(&mut self, amount: Amount, weight: Weight) -> Result<(), Cause>
         ensures answer { result ≡ answer_unless (claim_fault (law_of self.old) (row_of self.old.weights) amount weight) tt }
         ensures law { law_of self.new ≡ left_unless (claim_fault (law_of self.old) (row_of self.old.weights) amount weight)
             (claimed_law (law_of self.old) amount weight) (law_of self.old) }
-        ensures weights { Aligned (law_of self.old) (row_of self.old.weights) → row_of self.new.weights
+        ensures weights { row_of self.new.weights
             ≡ left_unless (claim_fault (law_of self.old) (row_of self.old.weights) amount weight)
             (claimed_row (law_of self.old) (row_of self.old.weights) amount weight) (row_of self.old.weights) }
         ensures lent { self.new.weights.slots.ghost_name ≡ self.old.weights.slots.ghost_name }
     {
-        let draft = match self.stage {
-            Stage::PartLaw(draft) => draft,
-            Stage::NoLaw => Draft::begin(),
-            Stage::WholeLaw(_) => Draft::begin(),
-        };
-        let claimed = draft.give(amount, weight)?;
-        if self.weights.capacity() <= amount.0 as usize {
-            return Err(Cause::Roll(RollFault::Full));
+        let claimed = self.draft().give(amount, weight)?;
+        if self.weights.capacity() <= usize::from(amount.0) {
+            return Err(RollFault::Full.into());
         }
-        self.make_ready();
-        self.place(amount, weight);
+        if !matches!(self.stage, Stage::PartLaw(_)) {
+            self.weights.empty();
+        }
+        place(&mut self.weights, amount, weight);
         self.stage = Stage::PartLaw(claimed);
         Ok(())
     }
 
-    // Outside part law the roll is emptied.
-    fn make_ready(&mut self)
-        ensures stage { self.new.stage ≡ self.old.stage }
-        ensures weights { row_of self.new.weights ≡ row_in (law_of self.old) (row_of self.old.weights) }
-        ensures lent { self.new.weights.slots.ghost_name ≡ self.old.weights.slots.ghost_name }
-    {
-        match self.stage {
-            Stage::PartLaw(_) => {}
-            Stage::NoLaw => self.weights.empty(),
-            Stage::WholeLaw(_) => self.weights.empty(),
-        }
-    }
-
-    // Puts the weight at its amount.
-    fn place(&mut self, amount: Amount, weight: Weight)
-        ensures stage { self.new.stage ≡ self.old.stage }
-        ensures weights { self.old.weights.filled ≤ amount.0 → amount.0 < length self.old.weights.slots.now →
-            row_of self.new.weights ≡ placed (row_of self.old.weights) amount.0 weight }
-        ensures lent { self.new.weights.slots.ghost_name ≡ self.old.weights.slots.ghost_name }
-    {
-        let _ = self.weights.pad(amount.0 as usize, Weight(0));
-        let _ = self.weights.put(weight);
-    }
-
     // The law is whole, if the count and the sum are right.
-    pub fn end(&mut self, draft: Draft, count: u16) -> Result<(), LawFault>
-        ensures answer { result ≡ answer_unless (end_fault (given_by draft) count) tt }
-        ensures law { law_of self.new ≡ left_unless (end_fault (given_by draft) count)
+    pub fn end(&mut self, count: u16) -> Result<(), LawFault>
+        ensures answer { result ≡ answer_unless (end_fault (given_in (law_of self.old)) count) tt }
+        ensures law { law_of self.new ≡ left_unless (end_fault (given_in (law_of self.old)) count)
             (whole_law (items (row_of self.old.weights))) (law_of self.old) }
         ensures weights { self.new.weights ≡ self.old.weights }
     {
+        let draft = self.draft();
         draft.end(count)?;
         self.stage = Stage::WholeLaw(Source::Listed);
         Ok(())

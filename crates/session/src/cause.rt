@@ -1,6 +1,6 @@
 ghost use Rattle.std.specs.Prelude.{◌≡◌};
 ghost use Rattle.session.specs.Fault.{cause_number};
-ghost use Rattle.session.specs.declared.cause.Cause.TheVariants.{Law, Capital, Run};
+ghost use Rattle.session.specs.declared.cause.Cause.TheVariants.{Roll, Feed, Law, Capital, Run, Session};
 
 use crate::fault::SessionFault;
 use capital::CapitalFault;
@@ -20,18 +20,35 @@ pub enum Cause {
     Session(SessionFault),
 }
 
-impl Cause {
-    pub fn number(self) -> u16
-        ensures { result ≡ cause_number self }
-    {
-        match self {
-            Cause::Roll(fault) => fault.number(),
-            Cause::Feed(fault) => fault.number(),
-            Cause::Law(fault) => fault.number(),
-            Cause::Capital(fault) => fault.number(),
-            Cause::Run(fault) => fault.number(),
-            Cause::Session(fault) => fault.number(),
+impl From<Cause> for u16 {
+    ghost from_gives = { λ cause number. number ≡ cause_number cause };
+
+    fn from(cause: Cause) -> u16 {
+        match cause {
+            Cause::Roll(fault) => fault.into(),
+            Cause::Feed(fault) => fault.into(),
+            Cause::Law(fault) => fault.into(),
+            Cause::Capital(fault) => fault.into(),
+            Cause::Run(fault) => fault.into(),
+            Cause::Session(fault) => fault.into(),
         }
+    }
+}
+
+// One for each layer: `?` asks for an impl by the fault's type.
+impl From<RollFault> for Cause {
+    ghost from_gives = { λ fault cause. cause ≡ Roll fault };
+
+    fn from(fault: RollFault) -> Cause {
+        Cause::Roll(fault)
+    }
+}
+
+impl From<FeedFault> for Cause {
+    ghost from_gives = { λ fault cause. cause ≡ Feed fault };
+
+    fn from(fault: FeedFault) -> Cause {
+        Cause::Feed(fault)
     }
 }
 
@@ -56,5 +73,13 @@ impl From<RunFault> for Cause {
 
     fn from(fault: RunFault) -> Cause {
         Cause::Run(fault)
+    }
+}
+
+impl From<SessionFault> for Cause {
+    ghost from_gives = { λ fault cause. cause ≡ Session fault };
+
+    fn from(fault: SessionFault) -> Cause {
+        Cause::Session(fault)
     }
 }

@@ -1,15 +1,15 @@
 ghost use Rattle.std.specs.Prelude.{◌≡◌};
 ghost use Rattle.run.specs.Calls.{fresh_on, opens, advances, after, open_answer, advance_answer, ask_answer};
-ghost use Rattle.run.specs.Period.{period_of};
+ghost use Rattle.run.specs.Views.{meant};
 ghost use Rattle.session.specs.Parts.{held_in};
 
 use capital::{CapitalRule, Penalty};
 use claims::ClaimLaw;
-use run::{Answer, Pair, Run, RunFault};
-use std::mem;
-use units::{Level, Weight};
+use run::{Answer, Pair, Period, Run, RunFault};
+use units::Level;
 
 // The run with the board and the spare that every call of it is handed.
+// Each call here promises that both are still the lent ones, since their lender knows by that what they hold.
 #[derive(Drop)]
 pub struct Desk<'a> {
     pub run: Run,
@@ -36,38 +36,22 @@ impl<'a> Desk<'a> {
         ensures board { self.new.board.ghost_name ≡ self.old.board.ghost_name }
         ensures spare { self.new.spare.ghost_name ≡ self.old.spare.ghost_name }
     {
-        let board = mem::replace(&mut self.board, &mut []);
-        let spare = mem::replace(&mut self.spare, &mut []);
-        let mut run = self.run;
-        let answer = run.open(long, board, spare);
-        self.run = run;
-        self.board = board;
-        self.spare = spare;
-        answer
+        // Lent on as it stands: the checker does not cover a field behind `&mut` that is handed on as `&`.
+        self.run.open(long, self.board, &mut *self.spare)
     }
 
     pub fn advance<L: ClaimLaw, R: CapitalRule, P: Penalty>(
         &mut self,
-        law: &L,
-        rule: &R,
-        penalty: &P,
-        allowance: Weight,
+        period: &Period<'_, L, R, P>,
     ) -> Result<(), RunFault>
-        ensures answer { let period = period_of (L.weights law.now) (R.carried rule.now) (P.priced penalty.now) allowance.0 in
-            result ≡ advance_answer period (held_in self.old) }
-        ensures held { let period = period_of (L.weights law.now) (R.carried rule.now) (P.priced penalty.now) allowance.0 in
-            held_in self.new ≡ after (advances period) (held_in self.old) }
+        ensures answer { let added = meant L.weights R.carried P.priced period.now in
+            result ≡ advance_answer added (held_in self.old) }
+        ensures held { let added = meant L.weights R.carried P.priced period.now in
+            held_in self.new ≡ after (advances added) (held_in self.old) }
         ensures board { self.new.board.ghost_name ≡ self.old.board.ghost_name }
         ensures spare { self.new.spare.ghost_name ≡ self.old.spare.ghost_name }
     {
-        let board = mem::replace(&mut self.board, &mut []);
-        let spare = mem::replace(&mut self.spare, &mut []);
-        let mut run = self.run;
-        let answer = run.advance(board, spare, law, rule, penalty, allowance);
-        self.run = run;
-        self.board = board;
-        self.spare = spare;
-        answer
+        self.run.advance(self.board, self.spare, period)
     }
 
     pub fn ask(&self, level: Level) -> Result<Answer, RunFault>

@@ -16,7 +16,7 @@ pub struct Fault {
     pub offset: usize,
 }
 
-// What a step tells.
+// What a step tells. Not a Result: a refusal is told like an answer, and is no error of the log.
 #[derive(Clone, Copy)]
 pub enum Entry {
     Answer(Answered),

@@ -1,10 +1,3 @@
-ghost use Rattle.std.specs.Prelude.{◌≡◌, ◌≤◌, length};
-ghost use Rattle.claims.specs.Law.{total};
-ghost use Rattle.session.specs.Law.{items};
-ghost use Rattle.session.specs.Parts.{law_of, row_of};
-ghost use Rattle.session.specs.Sound.{next_in, sum_in, whole_in, long_in};
-ghost use Rattle.units.specs.One.{one};
-
 use crate::book::Book;
 use crate::desk::Desk;
 use crate::entry::Entry;
@@ -14,7 +7,7 @@ use roll::Roll;
 
 pub mod records;
 
-// What a step answers: it took what stood next in the feed, or the feed has ended.
+// What a step answers: it took what stood next in the feed, or the feed has ended. An Option of nothing would say less.
 #[derive(Clone, Copy)]
 pub enum Progress {
     Stepped,
@@ -29,10 +22,4 @@ pub struct Session<'a> {
     terms: Terms,
     desk: Desk<'a>,
     log: Roll<'a, Entry>,
-    ghost fits: { book.weights.filled ≤ length book.weights.slots.now },
-    ghost few: { book.weights.filled ≤ 4096 },
-    ghost next: { next_in (law_of book) book.weights.filled ≡ book.weights.filled },
-    ghost sum: { sum_in (law_of book) (total (items (row_of book.weights))) ≡ total (items (row_of book.weights)) },
-    ghost whole: { whole_in (law_of book) ≡ one },
-    ghost short: { long_in (law_of book) ≤ 4096 },
 }

@@ -6,35 +6,19 @@ ghost use Rattle.soundings.specs.Output.{output_of};
 ghost use Rattle.soundings.specs.Walked.{Walked};
 ghost use Rattle.std.specs.Prelude.{◌≡◌, IfOk, string_bytes};
 
-use feed::{FeedFault, Found, Reader};
+use feed::{FeedFault, Reader, take_feed};
 use report::{end_line, refusal_line};
 use std::alloc::{AllocError, Global};
 use std::io;
-use std::io::Read;
 
 #[cfg(test)]
 mod tests;
-
-// One byte more than a feed may have is enough to tell that it is too long.
-const MOST_READ: u64 = 65_536;
-
-fn read_feed(heap: Global, input: impl Read + Drop) -> io::Result<Vec<u8>> {
-    let mut bytes = Vec::new(heap);
-    input.take(MOST_READ).read_to_end(&mut bytes)?;
-    Ok(bytes)
-}
 
 // Walks to the end of the feed: what it was stopped by, and where, or nothing.
 fn walk(reader: &mut Reader<'_>) -> Option<(FeedFault, usize)>
     ensures { Walked (walk_of reader.old) result (walk_of reader.new) }
 {
-    loop {
-        match reader.next_record() {
-            Found::Record(_, _) => {}
-            Found::Fault(fault, offset) => return Some((fault, offset)),
-            Found::End => return None,
-        }
-    }
+    reader.find(Result::is_err)?.err()
 }
 
 // All that the program writes: the fault, if one stopped the walk, and how many whole records there were.
@@ -48,7 +32,7 @@ fn output(
     let Some((fault, offset)) = stop else {
         return end_line(heap, count);
     };
-    let mut text = refusal_line(heap, fault.number(), offset)?;
+    let mut text = refusal_line(heap, u16::from(fault), offset)?;
     let end = end_line(heap, count)?;
     text.push_str(end.as_str())?;
     Ok(text)
@@ -56,7 +40,7 @@ fn output(
 
 fn main(rt: HostRuntime) -> io::Result<()> {
     let heap = rt.alloc();
-    let bytes = read_feed(heap, rt.stdin())?;
+    let bytes = take_feed(heap, rt.stdin())?;
     let mut reader = Reader::new(bytes.as_slice());
     let stop = walk(&mut reader);
     rt.print(output(heap, stop, reader.whole())?)

@@ -3,40 +3,30 @@
 
 ghost use Rattle.std.specs.Prelude.{◌≡◌, ◌≤◌, [], ◌++◌, length, IfOk, string_bytes, OnOk};
 ghost use Rattle.run.specs.History.{LeadTo};
-ghost use Rattle.session.specs.Step.{at_start};
 ghost use Rattle.session.specs.Views.{state_of, view_of};
 ghost use Rattle.soundings_session.specs.Transcript.{line_of, lines_of, Tells, Transcript};
 
+use feed::take_feed;
 use report::{answer_line, end_line, refusal_line};
-use run::Pair;
+use run::NIL;
 use session::{Cause, Entry, Fault, Progress, Session, SessionFault};
 use std::alloc::{AllocError, Global};
 use std::io;
-use std::io::Read;
 use units::Weight;
 
 #[cfg(test)]
 mod tests;
 
-// One byte more than a feed may have is enough to tell that it is too long.
-const MOST_READ: u64 = 65_536;
-
 const SLOTS: usize = 4096;
 
 const PAIRS: usize = 8192;
-
-fn read_feed(heap: Global, input: impl Read + Drop) -> io::Result<Vec<u8>> {
-    let mut bytes = Vec::new(heap);
-    input.take(MOST_READ).read_to_end(&mut bytes)?;
-    Ok(bytes)
-}
 
 fn line(heap: Global, entry: Entry) -> Result<String, AllocError>
     ensures { IfOk result (λ text. string_bytes text ≡ line_of entry) }
 {
     match entry {
         Entry::Answer(told) => answer_line(heap, told.level, told.answer),
-        Entry::Fault(told) => refusal_line(heap, told.cause.number(), told.offset),
+        Entry::Fault(told) => refusal_line(heap, u16::from(told.cause), told.offset),
     }
 }
 
@@ -69,49 +59,32 @@ fn tell(heap: Global, session: &mut Session<'_>) -> Result<String, AllocError>
                 text.push_str(end.as_str())?;
                 return Ok(text);
             }
-            Err(_) => unreachable(),
+            Err(_) => unreachable!(),
         }
     }
-}
-
-fn tell_on<'a>(
-    heap: Global,
-    feed: &'a [u8],
-    weights: &'a mut [Weight],
-    board: &'a mut [Pair],
-    spare: &'a mut [Pair],
-    log: &'a mut [Entry],
-) -> Result<String, AllocError>
-    requires { 1 ≤ length log.old }
-    ensures { IfOk result (λ text. Tells (at_start feed.now weights.old board.old spare.old log.old)
-        [] (string_bytes text)) }
-{
-    let mut session = Session::new(feed, weights, board, spare, log);
-    tell(heap, &mut session)
 }
 
 // All that the program writes of a feed.
 fn transcript(heap: Global, feed: &[u8]) -> Result<String, AllocError>
     ensures { IfOk result (λ text. Transcript feed.now (string_bytes text)) }
 {
-    let nil = Pair { lower: 0, upper: 0 };
     let mut weights = vec![in heap; Weight(0); SLOTS]?;
-    let mut board = vec![in heap; nil; PAIRS]?;
-    let mut spare = vec![in heap; nil; PAIRS]?;
+    let mut board = vec![in heap; NIL; PAIRS]?;
+    let mut spare = vec![in heap; NIL; PAIRS]?;
     let cause = Cause::Session(SessionFault::LogFull);
     let mut log = [Entry::Fault(Fault { cause, offset: 0 })];
-    tell_on(
-        heap,
+    let mut session = Session::new(
         feed,
         weights.as_mut_slice(),
         board.as_mut_slice(),
         spare.as_mut_slice(),
         &mut log,
-    )
+    );
+    tell(heap, &mut session)
 }
 
 fn main(rt: HostRuntime) -> io::Result<()> {
     let heap = rt.alloc();
-    let bytes = read_feed(heap, rt.stdin())?;
+    let bytes = take_feed(heap, rt.stdin())?;
     rt.print(transcript(heap, bytes.as_slice())?)
 }

@@ -1,11 +1,12 @@
 use crate::*;
 use std::test::Fail;
 
+// The same test as in soundings: both programs read by `take_feed`.
 #[test]
 fn reads_one_byte_past_the_longest_feed_and_no_more(rt: HostRuntime) -> Result<(), Fail> {
     for (given, read) in [(0, 0), (65_535, 65_535), (65_536, 65_536), (65_537, 65_536)] {
         let input = vec![in rt.alloc(); b'z'; given]?;
-        assert_eq!(rt; read_feed(rt.alloc(), input.as_slice())?.len(), read);
+        assert_eq!(rt; take_feed(rt.alloc(), input.as_slice())?.len(), read);
     }
     Ok(())
 }

@@ -1,12 +1,9 @@
 // Periods told by plain numbers. The engine's values and the exact sum are both made of them, each in its own way.
 use std::fmt;
 
-// The weights of a list of up to four amounts, in eighths of ONE. From `amounts` on there is no weight.
+// The weights of a list, in eighths of ONE, the first of amount 0.
 #[derive(Clone, Copy)]
-pub struct Shares {
-    pub eighths: [u32; 4],
-    pub amounts: u16,
-}
+pub struct Shares(pub &'static [u32]);
 
 #[derive(Clone, Copy)]
 pub enum LawCase {
@@ -34,6 +31,27 @@ pub struct PeriodCase {
     pub law: LawCase,
     pub rule: RuleCase,
     pub penalty: PenaltyCase,
+    pub allowance: u32,
+}
+
+impl fmt::Display for Shares {
+    fn fmt<W: fmt::Write>(&self, f: &mut fmt::Formatter<W>) -> fmt::Result {
+        for (place, eighths) in self.0.iter().enumerate() {
+            let comma = if place == 0 { "" } else { ", " };
+            write!(f, "{comma}{eighths}")?;
+        }
+        write!(f, " eighths")
+    }
+}
+
+impl fmt::Display for LawCase {
+    fn fmt<W: fmt::Write>(&self, f: &mut fmt::Formatter<W>) -> fmt::Result {
+        match self {
+            LawCase::Listed(shares) => write!(f, "{shares}"),
+            LawCase::Single { size, eighths } => write!(f, "size {size} at {eighths} eighths"),
+            LawCase::Retained { below, limit } => write!(f, "{below} retained at {limit}"),
+        }
+    }
 }
 
 impl fmt::Display for RuleCase {
@@ -53,5 +71,17 @@ impl fmt::Display for PenaltyCase {
             PenaltyCase::Below(y) => write!(f, "below-{y}"),
             PenaltyCase::Scaled(m) => write!(f, "scaled-{m}"),
         }
+    }
+}
+
+impl fmt::Display for PeriodCase {
+    fn fmt<W: fmt::Write>(&self, f: &mut fmt::Formatter<W>) -> fmt::Result {
+        let PeriodCase {
+            law,
+            rule,
+            penalty,
+            ..
+        } = self;
+        write!(f, "{law}, {rule}, {penalty}")
     }
 }

@@ -1,186 +1,228 @@
-// The library's laws, rules and penalties of a period that plain numbers tell.
+// A run on lists of its own, and the library's laws, rules and penalties of the periods that plain numbers tell.
 use crate::cases::{LawCase, PenaltyCase, PeriodCase, RuleCase, Shares};
-use crate::outcome::{Numbered, Outcome, outcome_of};
 use capital::{AnyRuin, Barrier, Below, CapitalRule, Floor, Penalty, Plain, Scaled};
-use claims::{ClaimLaw, Limit, Retained, SingleSize, Table};
-use run::{Pair, Run};
+use claims::{ClaimLaw, LawFault, Limit, Retained, SingleSize, Table};
+pub use run::NIL;
+use run::{Answer, Pair, Period, Run, RunFault};
+use session::Cause;
+use std::alloc::{AllocError, Global};
 use units::{Amount, Level, Weight};
 
 const EIGHTH: u32 = 1 << 27;
 
-pub const NIL: Pair = Pair { lower: 0, upper: 0 };
+// What a call answers that makes a law, a rule and a penalty, and is refused by the first of them that is. Apart from
+// AllocError: a refusal is what is tried, and want of memory ends the trials.
+pub type Refusable = Result<(), Cause>;
+
+// A run with the two lists that it works on.
+#[derive(Drop)]
+pub struct Bench {
+    heap: Global,
+    run: Run,
+    board: Vec<Pair>,
+    spare: Vec<Pair>,
+}
+
+// What can be seen of a bench: its lists, and what an ask of level 0 tells.
+#[derive(PartialEq, Drop)]
+pub struct Seen {
+    board: Vec<Pair>,
+    spare: Vec<Pair>,
+    pub told: Result<Answer, RunFault>,
+}
+
+// How many pairs of each list a call is lent.
+#[derive(Clone, Copy)]
+pub struct Lent {
+    pub board: usize,
+    pub spare: usize,
+}
+
+// The first pairs of a list, or all where there are fewer.
+fn first(list: &mut Vec<Pair>, count: usize) -> &mut [Pair] {
+    let count = count.min(list.len());
+    &mut list.as_mut_slice()[..count]
+}
 
 fn weight(eighths: u32) -> Weight {
     Weight(eighths.saturating_mul(EIGHTH))
 }
 
-// The list of weights; the places past its amounts weigh nothing and are not lent.
-fn weights(shares: Shares) -> [Weight; 4] {
-    let [a, b, c, d] = shares.eighths;
-    [weight(a), weight(b), weight(c), weight(d)]
+// The list of weights of a law, or of the law below it. A single size has none.
+fn weights(heap: Global, law: LawCase) -> Result<Vec<Weight>, AllocError> {
+    let shares = match law {
+        LawCase::Listed(shares) => shares,
+        LawCase::Single { .. } => Shares(&[]),
+        LawCase::Retained { below, .. } => below,
+    };
+    shares
+        .0
+        .iter()
+        .map(|eighths| weight(*eighths))
+        .collect(heap)
 }
 
-fn advance_penalty<L: ClaimLaw, R: CapitalRule>(
-    run: &mut Run,
-    board: &mut [Pair],
-    spare: &mut [Pair],
-    law: &L,
-    rule: &R,
-    penalty: PenaltyCase,
-    allowance: Weight,
-) -> Outcome {
-    match penalty {
-        PenaltyCase::AnyRuin => outcome_of(run.advance(
-            board, spare, law, rule, &AnyRuin, allowance,
-        )),
-        PenaltyCase::Below(y) => match Below::new(y) {
-            Ok(below) => outcome_of(run.advance(board, spare, law, rule, &below, allowance)),
-            Err(fault) => Outcome::Refused(fault.told()),
-        },
-        PenaltyCase::Scaled(m) => match Scaled::new(m) {
-            Ok(scaled) => outcome_of(run.advance(board, spare, law, rule, &scaled, allowance)),
-            Err(fault) => Outcome::Refused(fault.told()),
-        },
-    }
-}
-
-fn advance_rule<L: ClaimLaw>(
-    run: &mut Run,
-    board: &mut [Pair],
-    spare: &mut [Pair],
-    law: &L,
-    rule: RuleCase,
-    penalty: PenaltyCase,
-    allowance: Weight,
-) -> Outcome {
-    match rule {
-        RuleCase::Plain => advance_penalty(run, board, spare, law, &Plain, penalty, allowance),
-        RuleCase::Floor(level) => match Floor::new(Level(level)) {
-            Ok(floor) => advance_penalty(run, board, spare, law, &floor, penalty, allowance),
-            Err(fault) => Outcome::Refused(fault.told()),
-        },
-        RuleCase::Barrier(level) => match Barrier::new(Level(level)) {
-            Ok(barrier) => advance_penalty(run, board, spare, law, &barrier, penalty, allowance),
-            Err(fault) => Outcome::Refused(fault.told()),
-        },
-    }
-}
-
-// Adds a period whose law is a list of weights.
-fn add_listed(
-    run: &mut Run,
-    board: &mut [Pair],
-    spare: &mut [Pair],
-    list: &[Weight],
-    period: PeriodCase,
-    allowance: Weight,
-) -> Outcome {
+pub fn table(list: &[Weight]) -> Result<Table<'_>, LawFault> {
     let mut table = Table::calm();
-    if let Err(fault) = table.load(list) {
-        return Outcome::Refused(fault.told());
+    table.load(list)?;
+    Ok(table)
+}
+
+impl Bench {
+    // A run that is not open yet, with lists of copies of a pair.
+    pub fn new(heap: Global, pair: Pair, board: u16, spare: u16) -> Result<Bench, AllocError> {
+        Ok(Bench {
+            heap,
+            run: Run::fresh(),
+            board: vec![in heap; pair; usize::from(board)]?,
+            spare: vec![in heap; pair; usize::from(spare)]?,
+        })
     }
-    advance_rule(
-        run,
-        board,
-        spare,
-        &table,
-        period.rule,
-        period.penalty,
-        allowance,
-    )
-}
 
-// Adds a period whose law is retained over a list of weights.
-fn add_retained(
-    run: &mut Run,
-    board: &mut [Pair],
-    spare: &mut [Pair],
-    list: &[Weight],
-    limit: Limit,
-    period: PeriodCase,
-    allowance: Weight,
-) -> Outcome {
-    let mut table = Table::calm();
-    if let Err(fault) = table.load(list) {
-        return Outcome::Refused(fault.told());
-    }
-    let law = Retained::new(table, limit);
-    advance_rule(
-        run,
-        board,
-        spare,
-        &law,
-        period.rule,
-        period.penalty,
-        allowance,
-    )
-}
-
-fn add_single(
-    run: &mut Run,
-    board: &mut [Pair],
-    spare: &mut [Pair],
-    law: SingleSize,
-    period: PeriodCase,
-    allowance: Weight,
-) -> Outcome {
-    advance_rule(
-        run,
-        board,
-        spare,
-        &law,
-        period.rule,
-        period.penalty,
-        allowance,
-    )
-}
-
-// Adds a period to a run: taken, or refused by the first call that refuses.
-pub fn add_period(
-    run: &mut Run,
-    board: &mut [Pair],
-    spare: &mut [Pair],
-    period: PeriodCase,
-    allowance: Weight,
-) -> Outcome {
-    match period.law {
-        LawCase::Listed(shares) => {
-            let list = weights(shares);
-            let long = list.len().min(shares.amounts as usize);
-            add_listed(run, board, spare, &list[0..long], period, allowance)
+    fn whole(&self) -> Lent {
+        Lent {
+            board: self.board.len(),
+            spare: self.spare.len(),
         }
-        LawCase::Single { size, eighths } => match SingleSize::new(Amount(size), weight(eighths)) {
-            Ok(law) => add_single(run, board, spare, law, period, allowance),
-            Err(fault) => Outcome::Refused(fault.told()),
-        },
-        LawCase::Retained { below, limit } => match Limit::new(Amount(limit)) {
-            Ok(limit) => {
-                let list = weights(below);
-                let long = list.len().min(below.amounts as usize);
-                add_retained(run, board, spare, &list[0..long], limit, period, allowance)
+    }
+
+    pub fn open(&mut self, long: u16) -> Result<(), RunFault> {
+        let whole = self.whole();
+        self.open_on(whole, long)
+    }
+
+    pub fn open_on(&mut self, lent: Lent, long: u16) -> Result<(), RunFault> {
+        let board = first(&mut self.board, lent.board);
+        let spare = first(&mut self.spare, lent.spare);
+        self.run.open(long, board, spare)
+    }
+
+    pub fn ask(&self, level: u16) -> Result<Answer, RunFault> {
+        self.ask_on(self.whole(), level)
+    }
+
+    pub fn ask_on(&self, lent: Lent, level: u16) -> Result<Answer, RunFault> {
+        let board = &self.board.as_slice()[..lent.board.min(self.board.len())];
+        let spare = &self.spare.as_slice()[..lent.spare.min(self.spare.len())];
+        self.run.ask(board, spare, Level(level))
+    }
+
+    pub fn seen(&self) -> Result<Seen, AllocError> {
+        Ok(Seen {
+            board: self.board.clone()?,
+            spare: self.spare.clone()?,
+            told: self.ask(0),
+        })
+    }
+
+    // Opens the run and adds the periods, which stand in the order of time: the last in time is added first.
+    pub fn work(&mut self, long: u16, periods: &[PeriodCase]) -> Result<Refusable, AllocError> {
+        if let Err(fault) = self.open(long) {
+            return Ok(Err(fault.into()));
+        }
+        for period in periods.iter().rev() {
+            if let Err(cause) = self.add(period)? {
+                return Ok(Err(cause));
             }
-            Err(fault) => Outcome::Refused(fault.told()),
-        },
+        }
+        Ok(Ok(()))
     }
-}
 
-// Opens the run and adds the periods, which stand in the order of time: the last in time is added first.
-pub fn work(
-    run: &mut Run,
-    board: &mut [Pair],
-    spare: &mut [Pair],
-    long: u16,
-    periods: &[PeriodCase],
-    allowance: Weight,
-) -> Outcome {
-    if let Err(fault) = run.open(long, board, spare) {
-        return Outcome::Refused(fault.told());
+    // Adds a period until it is refused: how many times it was taken, and what the call after them answered.
+    pub fn fill(&mut self, period: &PeriodCase) -> Result<(u32, Refusable), AllocError> {
+        for taken in 0..5000 {
+            let answer = self.add(period)?;
+            if answer.is_err() {
+                return Ok((taken, answer));
+            }
+        }
+        Ok((5000, Ok(())))
     }
-    for period in periods.iter().rev() {
-        let outcome = add_period(run, board, spare, *period, allowance);
-        if outcome != Outcome::Taken {
-            return outcome;
+
+    pub fn advance<L: ClaimLaw, R: CapitalRule, P: Penalty>(
+        &mut self,
+        period: &Period<'_, L, R, P>,
+    ) -> Result<(), RunFault> {
+        let whole = self.whole();
+        self.advance_on(whole, period)
+    }
+
+    fn advance_on<L: ClaimLaw, R: CapitalRule, P: Penalty>(
+        &mut self,
+        lent: Lent,
+        period: &Period<'_, L, R, P>,
+    ) -> Result<(), RunFault> {
+        let board = first(&mut self.board, lent.board);
+        let spare = first(&mut self.spare, lent.spare);
+        self.run.advance(board, spare, period)
+    }
+
+    pub fn add(&mut self, period: &PeriodCase) -> Result<Refusable, AllocError> {
+        let whole = self.whole();
+        self.add_on(whole, period)
+    }
+
+    pub fn add_on(&mut self, lent: Lent, period: &PeriodCase) -> Result<Refusable, AllocError> {
+        let list = weights(self.heap, period.law)?;
+        Ok(self.add_listed(lent, list.as_slice(), period))
+    }
+
+    // A function for each choice, so that every law, rule and penalty is tried as its own type.
+    // The list is that of `weights`, which a single size leaves aside.
+    fn add_listed(&mut self, lent: Lent, list: &[Weight], period: &PeriodCase) -> Refusable {
+        match period.law {
+            LawCase::Listed(_) => self.add_lawful(lent, &table(list)?, period),
+            LawCase::Single { size, eighths } => {
+                let law = SingleSize::new(Amount(size), weight(eighths))?;
+                self.add_lawful(lent, &law, period)
+            }
+            LawCase::Retained { limit, .. } => {
+                let limit = Limit::new(Amount(limit))?;
+                self.add_lawful(lent, &Retained::new(table(list)?, limit), period)
+            }
         }
     }
-    Outcome::Taken
+
+    fn add_lawful<L: ClaimLaw>(&mut self, lent: Lent, law: &L, period: &PeriodCase) -> Refusable {
+        match period.rule {
+            RuleCase::Plain => self.add_ruled(lent, law, &Plain, period),
+            RuleCase::Floor(level) => self.add_ruled(lent, law, &Floor::new(Level(level))?, period),
+            RuleCase::Barrier(level) => {
+                self.add_ruled(lent, law, &Barrier::new(Level(level))?, period)
+            }
+        }
+    }
+
+    fn add_ruled<L: ClaimLaw, R: CapitalRule>(
+        &mut self,
+        lent: Lent,
+        law: &L,
+        rule: &R,
+        period: &PeriodCase,
+    ) -> Refusable {
+        match period.penalty {
+            PenaltyCase::AnyRuin => self.add_priced(lent, law, rule, &AnyRuin, period),
+            PenaltyCase::Below(y) => self.add_priced(lent, law, rule, &Below::new(y)?, period),
+            PenaltyCase::Scaled(m) => self.add_priced(lent, law, rule, &Scaled::new(m)?, period),
+        }
+    }
+
+    fn add_priced<L: ClaimLaw, R: CapitalRule, P: Penalty>(
+        &mut self,
+        lent: Lent,
+        law: &L,
+        rule: &R,
+        penalty: &P,
+        period: &PeriodCase,
+    ) -> Refusable {
+        let allowance = Weight(period.allowance);
+        let period = Period {
+            law,
+            rule,
+            penalty,
+            allowance,
+        };
+        self.advance_on(lent, &period)?;
+        Ok(())
+    }
 }

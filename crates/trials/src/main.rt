@@ -6,7 +6,6 @@ mod engine;
 mod exact;
 mod figures;
 mod limits;
-mod outcome;
 mod refusals;
 mod runs;
 mod sessions;
@@ -16,11 +15,11 @@ use std::io;
 use verdict::Verdicts;
 
 fn main(rt: HostRuntime) -> io::Result<()> {
-    let mut verdicts = Verdicts::new();
-    figures::all(&rt, &mut verdicts)?;
-    limits::all(&rt, &mut verdicts)?;
-    refusals::all(&rt, &mut verdicts)?;
-    sessions::all(&rt, &mut verdicts)?;
-    runs::all(&rt, &mut verdicts)?;
-    verdicts.sum_up(&rt)
+    let mut verdicts = Verdicts::new(&rt);
+    figures::all(&mut verdicts)?;
+    limits::all(&mut verdicts)?;
+    refusals::all(&mut verdicts)?;
+    sessions::all(&mut verdicts)?;
+    runs::all(&mut verdicts)?;
+    verdicts.sum_up()
 }

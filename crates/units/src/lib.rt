@@ -4,11 +4,9 @@
 ghost use Rattle.std.specs.Prelude.{◌≡◌};
 ghost use Rattle.units.specs.Surplus.{surplus_of};
 
-mod deficit;
-mod positive_surplus;
+mod ranged;
 
-pub use deficit::Deficit;
-pub use positive_surplus::PositiveSurplus;
+pub use ranged::{Deficit, PositiveSurplus, Ranged};
 
 // The whole of a probability: a weight of ONE is certain.
 pub const ONE: u32 = 1 << 30;
@@ -22,7 +20,7 @@ pub struct Weight(pub u32);
 pub struct Level(pub u16);
 
 // The claims of one period, in whole premiums.
-#[derive(Clone, Copy, PartialEq, Eq, Debug)]
+#[derive(Clone, Copy, PartialEq, Eq, PartialOrd, Ord, Debug)]
 pub struct Amount(pub u16);
 
 // A count of periods.
@@ -33,7 +31,7 @@ pub struct Periods(pub u16);
 pub fn surplus(level: Level, amount: Amount) -> i32
     ensures { result ≡ surplus_of level.0 amount.0 }
 {
-    level.0 as i32 + 1 - amount.0 as i32
+    i32::from(level.0) + 1 - i32::from(amount.0)
 }
 
 #[cfg(test)]

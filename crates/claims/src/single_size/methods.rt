@@ -6,16 +6,14 @@ ghost use Rattle.units.specs.Checks.{answer_unless};
 
 use super::SingleSize;
 use crate::{ClaimLaw, LawFault};
-use units::{Amount, ONE, Weight};
+use units::{Amount, ONE, Ranged, Weight};
 
 impl SingleSize {
     pub fn new(size: Amount, weight: Weight) -> Result<SingleSize, LawFault>
-        ensures size { result_map_both (λ s. s.size) (λ f. f) result ≡ answer_unless (single_fault size weight) size }
+        ensures size { result_map_both (λ s. s.size.value) (λ f. f) result ≡ answer_unless (single_fault size weight) size.0 }
         ensures weight { result_map_both (λ s. s.weight) (λ f. f) result ≡ answer_unless (single_fault size weight) weight }
     {
-        if size.0 < 1 || size.0 > 4095 {
-            return Err(LawFault::SizeRange);
-        }
+        let size = Ranged::new(i32::from(size.0)).ok_or(LawFault::SizeRange)?;
         if weight.0 > ONE {
             return Err(LawFault::WeightAboveOne);
         }
@@ -24,18 +22,19 @@ impl SingleSize {
 }
 
 impl ClaimLaw for SingleSize {
-    ghost weights = { λ s. single_weights s.size s.weight };
+    ghost weights = { λ s. single_weights (record { 0 = s.size.value }) s.weight };
 
-    ghost lawful = { λ s. single_lawful s.size s.weight s.least s.most s.share };
+    ghost lawful = { λ s. single_lawful (record { 0 = s.size.value }) s.weight s.size.least s.size.most s.share };
 
     fn last(&self) -> Amount {
-        self.size
+        Amount(self.size.value())
     }
 
     fn weight(&self, amount: Amount) -> Option<Weight> {
-        if amount.0 > self.size.0 {
+        let last = self.last();
+        if amount > last {
             None
-        } else if amount.0 == self.size.0 {
+        } else if amount == last {
             Some(self.weight)
         } else if amount.0 == 0 {
             Some(Weight(ONE - self.weight.0))

@@ -6,6 +6,7 @@ ghost use Rattle.units.specs.Checks.{answer_unless, left_unless};
 
 use super::Table;
 use crate::{ClaimLaw, LawFault};
+use std::cmp::Ordering;
 use units::{Amount, ONE, Weight};
 
 static CALM: [Weight; 1] = [Weight(ONE)];
@@ -14,11 +15,7 @@ fn total_weight(list: &[Weight]) -> u64
     requires { length list.now ≤ 4096 }
     ensures { result ≡ total list.now }
 {
-    let mut sum: u64 = 0;
-    for weight in list {
-        sum += weight.0 as u64;
-    }
-    sum
+    list.iter().map(|weight| u64::from(weight.0)).sum()
 }
 
 impl<'a> Table<'a> {
@@ -36,15 +33,14 @@ impl<'a> Table<'a> {
         if list.is_empty() || list.len() > 4096 {
             return Err(LawFault::ListLength);
         }
-        let sum = total_weight(list);
-        if sum > ONE as u64 {
-            return Err(LawFault::SumAboveOne);
+        match total_weight(list).cmp(&u64::from(ONE)) {
+            Ordering::Greater => Err(LawFault::SumAboveOne),
+            Ordering::Less => Err(LawFault::SumBelowOne),
+            Ordering::Equal => {
+                self.list = list;
+                Ok(())
+            }
         }
-        if sum < ONE as u64 {
-            return Err(LawFault::SumBelowOne);
-        }
-        self.list = list;
-        Ok(())
     }
 }
 
@@ -58,6 +54,6 @@ impl<'a> ClaimLaw for Table<'a> {
     }
 
     fn weight(&self, amount: Amount) -> Option<Weight> {
-        self.list.get(amount.0 as usize).copied()
+        self.list.get(usize::from(amount.0)).copied()
     }
 }

@@ -1,10 +1,9 @@
 ghost use Rattle.std.specs.Prelude.{◌≡◌};
 ghost use Rattle.feed.specs.Walk.{begun, walk_of, at_place, next_record, Nearer};
 
-use super::Reader;
+use super::{Found, Reader};
 use crate::fault::FeedFault;
-use crate::found::Found;
-use crate::reading::{Reading, read};
+use crate::reading::read;
 
 // The most bytes that a feed may have.
 const MOST: usize = 65_535;
@@ -22,22 +21,22 @@ impl<'a> Reader<'a> {
     }
 
     // Takes the next record, unless the feed has ended. A fault ends it.
-    pub fn next_record(&mut self) -> Found
+    pub fn next_record(&mut self) -> Option<Found>
         ensures found { result ≡ (next_record (walk_of self.old)).found }
         ensures after { walk_of self.new ≡ (next_record (walk_of self.old)).after }
         ensures nearer { Nearer result (walk_of self.old) (walk_of self.new) }
     {
         if self.ended {
-            return Found::End;
+            return None;
         }
         if self.feed.len() > MOST {
             self.ended = true;
-            return Found::Fault(FeedFault::TooLong, MOST);
+            return Some(Err((FeedFault::TooLong, MOST)));
         }
         self.take_record()
     }
 
-    fn take_record(&mut self) -> Found
+    fn take_record(&mut self) -> Option<Found>
         ensures found { result ≡ (at_place (walk_of self.old)).found }
         ensures after { walk_of self.new ≡ (at_place (walk_of self.old)).after }
         ensures nearer { Nearer result (walk_of self.old) (walk_of self.new) }
@@ -45,16 +44,31 @@ impl<'a> Reader<'a> {
         let feed = self.feed;
         let offset = self.place;
         match read(&feed[offset..]) {
-            Reading::Nothing => Found::End,
-            Reading::Whole(record, rest) => {
+            Ok(None) => None,
+            Ok(Some((record, rest))) => {
                 self.place = feed.len() - rest.len();
                 self.whole += 1;
-                Found::Record(record, offset)
+                Some(Ok((record, offset)))
             }
-            Reading::Stopped(fault) => {
+            Err(fault) => {
                 self.ended = true;
-                Found::Fault(fault, offset)
+                Some(Err((fault, offset)))
             }
         }
+    }
+}
+
+impl Iterator for Reader<'_> {
+    ghost use Rattle.feed.specs.Walk.{Takes, most_left};
+    ghost use Rattle.std.specs.Iterator.{at_most};
+
+    type Item = Found;
+
+    ghost next_gives = { λ r found after. Takes (walk_of r) found (walk_of after) };
+
+    ghost remaining = { λ r. at_most (most_left (walk_of r)) };
+
+    fn next(&mut self) -> Option<Found> {
+        self.next_record()
     }
 }

@@ -20,12 +20,11 @@ impl<'a, T: Copy> Roll<'a, T> {
         ensures filled { self.new.filled ≡ put_filled self.old.slots.now self.old.filled }
         ensures lent { self.new.slots.ghost_name ≡ self.old.slots.ghost_name }
     {
-        let filled = self.filled;
-        if filled >= self.slots.len() {
+        if self.is_full() {
             return Err(RollFault::Full);
         }
-        self.slots[filled] = item;
-        self.filled = filled + 1;
+        self.slots[self.filled] = item;
+        self.filled += 1;
         Ok(())
     }
 
@@ -36,24 +35,20 @@ impl<'a, T: Copy> Roll<'a, T> {
         ensures filled { self.new.filled ≡ pad_filled self.old.slots.now self.old.filled count }
         ensures lent { self.new.slots.ghost_name ≡ self.old.slots.ghost_name }
     {
-        let filled = self.filled;
         if count > self.slots.len() {
             return Err(RollFault::Full);
         }
-        for place in filled..count {
-            self.slots[place] = item;
+        if self.filled < count {
+            self.slots[self.filled..count].fill_with(|| item);
+            self.filled = count;
         }
-        self.filled = filled.max(count);
         Ok(())
     }
 
     pub fn read(&self, place: usize) -> Result<T, RollFault>
         ensures { result ≡ read_answer (take self.now.filled self.now.slots.now) place }
     {
-        match self.items().get(place) {
-            Some(item) => Ok(*item),
-            None => Err(RollFault::NotFilled),
-        }
+        self.items().get(place).copied().ok_or(RollFault::NotFilled)
     }
 
     pub fn empty(&mut self)
@@ -68,7 +63,7 @@ impl<'a, T: Copy> Roll<'a, T> {
     pub fn items(&self) -> &[T]
         ensures { result.now ≡ take self.now.filled self.now.slots.now }
     {
-        &self.slots[0..self.filled]
+        &self.slots[..self.filled]
     }
 
     // How many slots there are, filled or not.

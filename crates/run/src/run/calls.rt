@@ -3,7 +3,7 @@ ghost use Rattle.run.specs.Calls.{Call, fresh as fresh_run, opens, after, open_a
 ghost use Rattle.run.specs.History.{LeadTo, Faithful, ledger_of};
 ghost use Rattle.run.specs.Views.{kept_by, held_by};
 
-use super::Run;
+use super::{Opened, Run};
 use crate::pair::NIL;
 use crate::{Answer, Dropped, Pair, RunFault};
 use units::{Level, Periods};
@@ -13,13 +13,7 @@ impl Run {
     pub fn fresh() -> Run
         ensures { kept_by result ≡ fresh_run }
     {
-        Run {
-            opened: false,
-            long: 0,
-            known: 0,
-            periods: 0,
-            dropped: 0,
-        }
+        Run { opened: None }
     }
 
     // Starts over with no periods, whether the run was open or not.
@@ -28,40 +22,40 @@ impl Run {
         ensures leaves { held_by self.new board.new spare.now
             ≡ after (opens long) (held_by self.old board.old spare.now) }
     {
-        if long < 2 || long > 8192 {
+        if !(2..=8192).contains(&long) {
             return Err(RunFault::LengthRange);
         }
         let row = long as usize;
+        // Written out in each of the three calls: the contract of a function for it would be longer than the test.
         if board.len() < row || spare.len() < row {
             return Err(RunFault::ListShort);
         }
         board[0..row].fill(NIL);
-        *self = Run {
-            opened: true,
+        self.opened = Some(Opened {
             long,
             known: long,
             periods: 0,
             dropped: 0,
-        };
+        });
         Ok(())
     }
 
+    // What ask answers, apart from it, so that the faithfulness is proved once and not at each return.
     fn look_up(&self, board: &[Pair], spare: &[Pair], level: Level) -> Result<Answer, RunFault>
         ensures { result ≡ ask_answer level.0 (held_by self.now board.now spare.now) }
     {
-        if !self.opened {
-            return Err(RunFault::Unopened);
-        }
-        if board.len() < self.long as usize || spare.len() < self.long as usize {
+        let opened = self.opened.ok_or(RunFault::Unopened)?;
+        let row = opened.long as usize;
+        if board.len() < row || spare.len() < row {
             return Err(RunFault::ListShort);
         }
-        if level.0 >= self.known {
+        if level.0 >= opened.known {
             return Err(RunFault::LevelUnknown);
         }
         Ok(Answer {
             pair: board[level.0 as usize],
-            periods: Periods(self.periods),
-            dropped: Dropped(self.dropped),
+            periods: Periods(opened.periods),
+            dropped: Dropped(opened.dropped),
         })
     }
 

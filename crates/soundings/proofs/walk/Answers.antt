@@ -1,14 +1,12 @@
-use Rattle.std.proofs.Common.{rules}
+use Rattle.std.proofs.Common.{Some, None, of_calls}
+use Rattle.soundings.proofs.Finding.{finds}
 use Rattle.soundings.proofs.walk.Goals as goal
-use Rattle.soundings.specs.Walked.{over, stopped, further}
 
-pub loop-fault-preserved : goal.loop-fault-preserved
-loop-fault-preserved c =
-    let found = c.in-Record.ensures.found in
-    λ stop end on. c.loop-fault.invariant stop end (further found c.in-Record.ensures.after on)
+pub returns-in_err-find : goal.returns-in_err-find
+returns-in_err-find c =
+    rw c.from_residual.ensures (finds _ (λ p x b q e. search of_calls) _ c.find.new.self _ None c.in_err-find.ensures.ran)
 
-pub returns-in-Fault : goal.returns-in-Fault
-returns-in-Fault c = c.loop-fault.invariant _ _ (search (rules, stopped, c.in-Fault.ensures))
-
-pub returns-in-End : goal.returns-in-End
-returns-in-End c = c.loop-fault.invariant _ _ (search (rules, over, c.in-End.ensures))
+pub returns : goal.returns
+returns c =
+    rw (← c.err.ensures.value) at
+    (finds _ (λ p x b q e. search of_calls) _ c.find.new.self _ (Some c.in_ok-find.field-0) c.in_ok-find.ensures.ran)

@@ -1,16 +1,16 @@
-use Rattle.std.proofs.Common.{rules}
+use Rattle.session.specs.Views.{view_of}
+use Rattle.soundings_session.proofs.Telling.{start_fresh}
 use Rattle.soundings_session.proofs.transcript.Goals as goal
-use Rattle.std.proofs.lemmas.Result.{IfOk-from_err, IfOk-weaker}
+use Rattle.soundings_session.specs.Transcript.{Tells}
+use Rattle.std.proofs.Common.{[], string_bytes, subst, rules}
+use Rattle.std.proofs.lemmas.Result.{IfOk-weaker}
 
-pub returns-in_err-board : goal.returns-in_err-board
-returns-in_err-board c = search (rules, IfOk-from_err)
-
-pub returns-in_err-spare : goal.returns-in_err-spare
-returns-in_err-spare c = search (rules, IfOk-from_err)
+pub tell-requires-clause-fresh : goal.tell-requires-clause-fresh
+tell-requires-clause-fresh c = start_fresh (view_of c.new-session.result) _ _ _ _ _ c.new-session.ensures.view
 
 pub returns : goal.returns
 returns c =
-    IfOk-weaker c.tell_on.result _ _
+    IfOk-weaker c.tell.result _ _
     (λ text tells. record {
       weights = c.as_mut_slice.result.now;
       board = c.as_mut_slice-2.result.now;
@@ -20,6 +20,6 @@ returns c =
       pairs = search rules;
       spares = search rules;
       entries = search rules;
-      tells = tells;
+      tells = subst (λ view. Tells view [] (string_bytes text)) c.new-session.ensures.view tells;
     })
-    c.tell_on.ensures
+    c.tell.ensures

@@ -12,21 +12,20 @@ use Rattle.run.proofs.Faith.{
 use Rattle.run.proofs.caller.one_period.Goals as goal
 use Rattle.run.specs.Calls.{opens, advances, fresh_on}
 use Rattle.run.specs.History.{ledger_of, Faithful}
-use Rattle.run.specs.Period.{Period, Meaningful, period_of}
-use Rattle.run.specs.Views.{kept_by}
+use Rattle.run.specs.Period.{Meaningful}
+use Rattle.run.specs.Views.{kept_by, meant}
 use Rattle.std.proofs.lemmas.Result.{err_from_is_err_and, IfOk-from_err}
 
 pub returns : goal.returns
 returns g c =
-    let law = c.args.law.now in
-    let rule = c.args.rule.now in
-    let penalty = c.args.penalty.now in
+    let law = c.args.period.now.law.now in
+    let rule = c.args.period.now.rule.now in
+    let penalty = c.args.period.now.penalty.now in
     let board = c.args.board.now in
     let spare = c.args.spare.now in
     let long = c.args.long in
     let level = c.args.level.0 in
-    let period : Period =
-    period_of (g.L.ClaimLaw.weights law) (g.R.CapitalRule.carried rule) (g.P.Penalty.priced penalty) c.args.allowance.0 in
+    let period = meant g.L.ClaimLaw.weights g.R.CapitalRule.carried g.P.Penalty.priced c.args.period.now in
     let meaningful : Meaningful period = record {
       lawful = g.L.ClaimLaw.lawful law;
       within = g.met.R.CapitalRule.within rule;
@@ -57,9 +56,7 @@ returns-in_err-advance g c =
     let spare = c.args.spare.now in
     let long = c.args.long in
     let level = c.args.level.0 in
-    let period : Period =
-    period_of (g.L.ClaimLaw.weights c.args.law.now) (g.R.CapitalRule.carried c.args.rule.now)
-    (g.P.Penalty.priced c.args.penalty.now) c.args.allowance.0 in
+    let period = meant g.L.ClaimLaw.weights g.R.CapitalRule.carried g.P.Penalty.priced c.args.period.now in
     let begun = fresh-held (kept_by c.fresh-run.result) board spare c.fresh-run.ensures in
     let opening = c.«open».ensures.leaves in
     let advancing = c.advance.ensures.leaves in

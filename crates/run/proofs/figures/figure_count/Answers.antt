@@ -1,4 +1,4 @@
-use Rattle.std.proofs.Common.{refl, rules}
+use Rattle.std.proofs.Common.{refl}
 use Rattle.run.proofs.figures.figure_count.Goals as goal
 use Rattle.run.specs.Figures.{figures, AllCome}
 
@@ -13,5 +13,5 @@ figures_come =
     also refl (also refl (also refl (also refl (also refl (also refl (
     also refl tt))))))))))))))))))
 
-pub returns : goal.returns
-returns c = record { count = search rules; all_come = figures_come }
+pub returns-clause-all_come : goal.returns-clause-all_come
+returns-clause-all_come c = figures_come

@@ -4,19 +4,18 @@ ghost use Rattle.run.specs.Calls.{Call};
 ghost use Rattle.run.specs.History.{LeadTo, ledger_of};
 ghost use Rattle.session.specs.Histories.{calls_after, StepFaithful};
 ghost use Rattle.session.specs.Law.{items};
-ghost use Rattle.session.specs.Parts.{row_of};
 ghost use Rattle.session.specs.Records.{after_record};
+ghost use Rattle.session.specs.Stages.{row_of};
 ghost use Rattle.session.specs.Step.{at_start, is_full, logged, told, taken, step_answer, after_step, with_log_emptied, Nearer};
 ghost use Rattle.session.specs.Views.{state_of, view_of, SameLists};
 
 use crate::book::Book;
-use crate::cause::Cause;
 use crate::desk::Desk;
 use crate::entry::{Entry, Fault};
 use crate::fault::SessionFault;
 use crate::session::{Progress, Session};
 use crate::terms::Terms;
-use feed::{Found, Reader, Record};
+use feed::{Reader, Record};
 use roll::Roll;
 use run::Pair;
 use units::Weight;
@@ -74,25 +73,20 @@ impl<'a> Session<'a> {
         ensures lists { SameLists self.old self.new }
     {
         match self.reader.next_record() {
-            Found::Record(record, offset) => self.take_record(record, offset),
-            Found::Fault(fault, offset) => {
-                let cause = Cause::Feed(fault);
+            Some(Ok((record, offset))) => self.take_record(record, offset),
+            Some(Err((fault, offset))) => {
+                let cause = fault.into();
                 self.note(Entry::Fault(Fault { cause, offset }))
             }
-            Found::End => {}
+            None => {}
         }
     }
 
+    // A method of its own: the checker does not cover a loan of the reader in a method that changes the session.
     fn feed_is_over(&self) -> bool
         ensures { result ≡ over (walk_of self.now.reader) }
     {
         self.reader.is_over()
-    }
-
-    fn log_is_full(&self) -> bool
-        ensures { result ≡ is_full (row_of self.now.log) }
-    {
-        self.log.is_full()
     }
 
     fn take_step(&mut self) -> Result<Progress, SessionFault>
@@ -103,7 +97,7 @@ impl<'a> Session<'a> {
         if self.feed_is_over() {
             return Ok(Progress::Ended);
         }
-        if self.log_is_full() {
+        if self.log.is_full() {
             return Err(SessionFault::LogFull);
         }
         self.take_next();

@@ -1,18 +1,12 @@
-use Rattle.std.proofs.Common.{rules}
-use Rattle.roll.proofs.Filling.{written_none, written_more, written_all, length-written}
+use Rattle.std.proofs.Common.{rules, of_calls}
+use Rattle.roll.proofs.Filling.{filled_with, padded_by}
 use Rattle.roll.proofs.roll.Roll.pad.Goals as goal
 
-pub loop-place-init : goal.loop-place-init
-loop-place-init g c = search (rules, written_none)
-
-pub bounds-self-place : goal.bounds-self-place
-bounds-self-place g c = search (rules, length-written)
-
-pub loop-place-preserved : goal.loop-place-preserved
-loop-place-preserved g c = search (rules, written_more)
-
-pub returns : goal.returns
-returns g c =
-    let slots = c.args.self.now.slots.now in
-    let all = written_all slots c.args.self.now.filled c.args.item c.loop-place.place c.args.count (search rules) in
-    search (rules, all)
+pub returns-then-self-count-clause-slots : goal.returns-then-self-count-clause-slots
+returns-then-self-count-clause-slots g c =
+    let filled = c.fill_with in
+    let copies = filled_with _ (λ f. f.0.now) (λ f item next step. (search of_calls, search of_calls)) filled.new.self _ _ filled.ensures.ran.1 in
+    let whole =
+    padded_by c.args.self.now.slots.now _ c.args.self.now.filled c.args.count c.args.item
+    (search rules) (search rules) filled.ensures.len copies in
+    search rules

@@ -1,4 +1,4 @@
-use Rattle.std.proofs.Common.{◌∙◌, arith, w32, SFits, to_z, of_z, rules}
+use Rattle.std.proofs.Common.{length, ◌∙◌, arith, w32, SFits, to_z, of_z, rules}
 use Rattle.std.proofs.lemmas.Int.{to_z-of_z}
 use Rattle.run.proofs.Costing.{costing_more, known_all, known_stops, ruins_below}
 use Rattle.run.proofs.run.advance.gather_costs.Goals as goal
@@ -8,9 +8,9 @@ loop-level-preserved g c =
     let carried = g.R.CapitalRule.carried c.args.rule.now in
     let priced = g.P.Penalty.priced c.args.penalty.now in
     let end = c.surplus-end.result in let fits : SFits w32 end = search rules in
-    costing_more carried priced c.args.board.now c.args.known c.args.largest.0 c.loop-level.level
+    costing_more carried priced c.args.old.now (length c.args.old.now) c.args.largest.0 c.loop-level.level
     (to_z w32 (of_z w32 end)) (to_z-of_z w32 end fits ∙ c.surplus-end.ensures) c.loop-level.costs c.in-Some.pair
-    (search rules) c.loop-level.invariant c.in-Some.ensures
+    (omega arith) c.loop-level.invariant c.in-Some.ensures
 
 pub returns-in_default : goal.returns-in_default
 returns-in_default g c =
@@ -19,25 +19,20 @@ returns-in_default g c =
     let priced = g.P.Penalty.priced c.args.penalty.now in
     let end = c.surplus-end.result in let fits : SFits w32 end = search rules in
     let inv = c.loop-level.invariant in
-    let ruins = ruins_below carried priced c.args.board.now c.args.known c.args.largest.0
+    let ruins = ruins_below carried priced c.args.old.now (length c.args.old.now) c.args.largest.0
     c.loop-level.level (to_z w32 (of_z w32 end)) (to_z-of_z w32 end fits ∙ c.surplus-end.ensures) c.in_default.ensures in
     record {
       within = omega (arith, ruins);
-      known = known_stops carried priced c.args.board.now c.args.known c.args.largest.0 c.args.long
+      known = known_stops carried priced c.args.old.now (length c.args.old.now) c.args.largest.0 c.args.long
           c.loop-level.costs c.requires.long (g.met.R.CapitalRule.rising rule) c.loop-level.level
           (to_z w32 (of_z w32 end)) (to_z-of_z w32 end fits ∙ c.surplus-end.ensures) c.loop-level-test.true inv
           c.in_default.ensures;
       costs = λ x h. inv.gathered x (omega (arith, h, ruins));
     }
 
-pub returns : goal.returns
-returns g c =
+pub returns-clause-known : goal.returns-clause-known
+returns-clause-known g c =
     let rule = c.args.rule.now in
-    let inv = c.loop-level.invariant in
-    record {
-      within = omega arith;
-      known = known_all (g.R.CapitalRule.carried rule) (g.P.Penalty.priced c.args.penalty.now) c.args.board.now
-          c.args.known c.args.largest.0 c.args.long c.loop-level.costs c.requires.long
-          (g.met.R.CapitalRule.rising rule) c.loop-level.level c.loop-level-test.false inv;
-      costs = λ x h. inv.gathered x (omega (arith, h, c.loop-level-test.false));
-    }
+    known_all (g.R.CapitalRule.carried rule) (g.P.Penalty.priced c.args.penalty.now) c.args.old.now (length c.args.old.now)
+    c.args.largest.0 c.args.long c.loop-level.costs c.requires.long (g.met.R.CapitalRule.rising rule) c.loop-level.level
+    c.loop-level-test.false c.loop-level.invariant
