@@ -1,6 +1,6 @@
 -- The loop that gathers what each surplus costs, and how many levels are known then.
-use Rattle.std.proofs.Common.{◌≡◌, ℕ, zero, suc, ◌+◌, ◌-◌, ◌<◌, ◌≤◌, Bool, true, false, ltb, ◌≢◌, List, length, get_or, set}
-use Rattle.std.proofs.Common.{ℤ, pos, neg_ℤ, Some, None, count_by, Option, sym, refl, ap, ◌∙◌, ⊎_elim, arith, get_or-set_other, get_or-set_same, length-set, below_more}
+use Rattle.std.proofs.Common.{◌≡◌, ℕ, zero, suc, ◌+◌, ◌-◌, ◌<◌, ◌≤◌, Bool, true, false, ltb, List, length, get_or}
+use Rattle.std.proofs.Common.{ℤ, pos, neg_ℤ, Some, None, count_by, Option, sym, refl, ap, ◌∙◌, ⊎_elim, arith}
 use Rattle.capital.specs.Laws.{Rising}
 use Rattle.run.proofs.Costs.{surplus_left, surplus_ruined}
 use Rattle.run.proofs.Paths.{Falling, counting_falling, rising-falls}
@@ -38,20 +38,6 @@ module _ (carried priced : ℕ → ℕ) (board : List Pair) (known largest : ℕ
   found : (reached : Bool) (cost pair : Pair) → Some pair ≡ then_some reached cost → (reached ≡ true) × (pair ≡ cost)
   found true cost pair there = (refl, cc)
   found false cost pair there = absurd (none-some pair (sym there))
-
-  pub costing_more :
-      (level : ℕ) (end : ℤ) → end ≡ surplus_of level largest → (costs : List Pair) (pair : Pair)
-      → level < 12288 → Costing level costs → Some pair ≡ told end
-      → Costing (level + 1) (set costs level pair)
-  costing_more level end is costs pair within inv there =
-      let here = found (reaches carried known (surplus_of level largest)) (cost_pair carried priced board (surplus_of level largest)) pair (there ∙ ap told is) in
-      record {
-        reached = below_more _ _ inv.reached here.0;
-        gathered = below_more _ _
-            (λ x h. let ne : x ≢ level = omega arith in rw get_or-set_other (inv.gathered x h))
-            (let lt : level < length costs = omega (arith, inv.room) in rw get_or-set_same here.1);
-        room = length-set costs level pair ∙ inv.room;
-      }
 
   reaches-left : (u : ℕ) → reaches carried known (surplus_of (largest + u) largest) ≡ ltb (carried (u + 1)) known
   reaches-left u =

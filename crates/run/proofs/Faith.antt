@@ -57,12 +57,6 @@ module _ (long level : ℕ) (period : Period) (first held opened left : Held) (b
   open_is : open_answer long first ≡ Ok tt
   open_is = sym (ap (open_answer long) begun) ∙ taken
 
-  pub one_refused : (fault : RunFault) → advance_answer period opened ≡ Err fault → Err fault ≡ one_answer long period level first
-  one_refused fault refused =
-      let last = ask_answer level (after (advances period) (after (opens long) first)) in
-      sym (ap (λ r. result_and r (result_and (advance_answer period (after (opens long) first)) last)) open_is
-      ∙ ap (λ r. result_and r last) (sym advance_is ∙ refused))
-
   pub one-answered :
       (answer : Result Answer RunFault) → advance_answer period opened ≡ Ok tt → answer ≡ ask_answer level left
       → answer ≡ one_answer long period level first

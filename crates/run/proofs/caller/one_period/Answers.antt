@@ -1,20 +1,10 @@
-use Rattle.std.proofs.Common.{[], ◌∷◌, length, Ok, Err, sym, ap, ◌∙◌, rules}
-use Rattle.run.proofs.Faith.{
-  led_on,
-  led_first,
-  same_lengths,
-  fresh-held,
-  left_is,
-  one-answered,
-  one_refused,
-  made_faithful,
-}
+use Rattle.std.proofs.Common.{[], ◌∷◌, length, sym, ap, ◌∙◌, rules}
+use Rattle.run.proofs.Faith.{led_on, led_first, same_lengths, fresh-held, left_is, one-answered, made_faithful}
 use Rattle.run.proofs.caller.one_period.Goals as goal
 use Rattle.run.specs.Calls.{opens, advances, fresh_on}
-use Rattle.run.specs.History.{ledger_of, Faithful}
+use Rattle.run.specs.History.{ledger_of}
 use Rattle.run.specs.Period.{Meaningful}
 use Rattle.run.specs.Views.{kept_by, meant}
-use Rattle.std.proofs.lemmas.Result.{err_from_is_err_and, IfOk-from_err}
 
 pub returns : goal.returns
 returns g c =
@@ -48,28 +38,4 @@ returns g c =
       faithful = made_faithful (ledger_of (length board) (length spare) (advances period ∷ (opens long ∷ []))) level c.ask.result
           (same_lengths (advances period ∷ (opens long ∷ [])) _ _ _ _ _ level c.ask.result (c.ask.ensures.faithful _ led)
           (search rules) (search rules) (search rules));
-    }
-
-pub returns-in_err-advance : goal.returns-in_err-advance
-returns-in_err-advance g c =
-    let board = c.args.board.now in
-    let spare = c.args.spare.now in
-    let long = c.args.long in
-    let level = c.args.level.0 in
-    let period = meant g.L.ClaimLaw.weights g.R.CapitalRule.carried g.P.Penalty.priced c.args.period.now in
-    let begun = fresh-held (kept_by c.fresh-run.result) board spare c.fresh-run.ensures in
-    let opening = c.«open».ensures.leaves in
-    let advancing = c.advance.ensures.leaves in
-    let taken = sym c.«open».ensures.answer ∙ c.in_ok-open.was in
-    let refused = sym c.advance.ensures.answer ∙ c.in_err-advance.was in
-    let left = left_is long level period (fresh_on board spare) _ _ _ begun opening advancing taken in
-    let told = c.from_residual-in_err-advance in
-    let exit = err_from_is_err_and told.result told.ensures.1 in
-    record {
-      answer = exit.1
-          ∙ (ap Err exit.2 ∙ one_refused long level period (fresh_on board spare) _ _ _ begun opening advancing taken _ refused);
-      board = ap (λ held. held.board) left;
-      spare = ap (λ held. held.spare) left;
-      faithful = IfOk-from_err told.result
-          (λ answer. Faithful (ledger_of (length board) (length spare) (advances period ∷ (opens long ∷ []))) level (Ok answer)) told.ensures.0;
     }

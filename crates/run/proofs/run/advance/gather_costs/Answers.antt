@@ -1,16 +1,7 @@
 use Rattle.std.proofs.Common.{length, ◌∙◌, arith, w32, SFits, to_z, of_z, rules}
 use Rattle.std.proofs.lemmas.Int.{to_z-of_z}
-use Rattle.run.proofs.Costing.{costing_more, known_all, known_stops, ruins_below}
+use Rattle.run.proofs.Costing.{known_all, known_stops, ruins_below}
 use Rattle.run.proofs.run.advance.gather_costs.Goals as goal
-
-pub loop-level-preserved : goal.loop-level-preserved
-loop-level-preserved g c =
-    let carried = g.R.CapitalRule.carried c.args.rule.now in
-    let priced = g.P.Penalty.priced c.args.penalty.now in
-    let end = c.surplus-end.result in let fits : SFits w32 end = search rules in
-    costing_more carried priced c.args.old.now (length c.args.old.now) c.args.largest.0 c.loop-level.level
-    (to_z w32 (of_z w32 end)) (to_z-of_z w32 end fits ∙ c.surplus-end.ensures) c.loop-level.costs c.in-Some.pair
-    (omega arith) c.loop-level.invariant c.in-Some.ensures
 
 pub returns-in_default : goal.returns-in_default
 returns-in_default g c =
