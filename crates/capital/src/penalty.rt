@@ -8,7 +8,7 @@ pub trait Penalty {
     ghost priced: { Self → ℕ → ℕ };
 
     fn price(&self, deficit: Deficit) -> Weight
-        ensures { result.0 ≡ priced self.now deficit.value };
+        ensures { result.0 ≡ priced self.now deficit.number.value };
 
     ghost bounded: { (penalty : Self) → Bounded (priced penalty) };
 }

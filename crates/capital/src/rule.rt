@@ -8,7 +8,7 @@ pub trait CapitalRule {
     ghost carried: { Self → ℕ → ℕ };
 
     fn carry(&self, surplus: PositiveSurplus) -> Level
-        ensures { result.0 ≡ carried self.now surplus.value };
+        ensures { result.0 ≡ carried self.now surplus.number.value };
 
     ghost within: { (rule : Self) → Within (carried rule) };
 

@@ -4,9 +4,13 @@
 ghost use Rattle.std.specs.Prelude.{◌≡◌};
 ghost use Rattle.units.specs.Surplus.{surplus_of};
 
+mod deficit;
+mod positive_surplus;
 mod ranged;
 
-pub use ranged::{Deficit, PositiveSurplus, Ranged};
+pub use deficit::Deficit;
+pub use positive_surplus::PositiveSurplus;
+pub use ranged::Ranged;
 
 // The whole of a probability: a weight of ONE is certain.
 pub const ONE: u32 = 1 << 30;
