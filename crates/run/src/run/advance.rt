@@ -79,7 +79,8 @@ fn cost<R: CapitalRule, P: Penalty>(
 }
 
 // Asks penalty and rule once for each surplus that a known level can end with, from the one that `largest` leaves of
-// level 0 upward, and answers how many levels are known then.
+// level 0 upward, and answers how many levels are known then. Not inlined: its loop is then as fast in each program.
+#[inline(never)]
 fn gather_costs<R: CapitalRule, P: Penalty>(
     rule: &R,
     penalty: &P,
@@ -116,7 +117,9 @@ fn weigh(weights: &[u32], costs: &[Pair], dropped: u32, place: usize) -> Pair
 {
     let mut lower: u64 = 0;
     let mut upper: u64 = 0;
-    for (weight, cost) in weights.iter().zip(&costs[place..]) {
+    // Slices of one length, so that each turn tests one end.
+    let costs = &costs[place..place + weights.len()];
+    for (weight, cost) in weights.iter().zip(costs) {
         lower += *weight as u64 * cost.lower as u64;
         upper += *weight as u64 * cost.upper as u64;
     }
@@ -127,7 +130,8 @@ fn weigh(weights: &[u32], costs: &[Pair], dropped: u32, place: usize) -> Pair
     }
 }
 
-// Writes the pair of each level of a row.
+// Writes the pair of each level of a row. Not inlined, as gather_costs is not.
+#[inline(never)]
 fn fill_row(weights: &[u32], costs: &[Pair], dropped: u32, row: &mut [Pair])
     requires within { length row.old + length weights.now ≤ length costs.now + 1 }
     requires whole { sum_below (length weights.now) (λ i. slice_index weights.now i) + dropped ≤ one }
@@ -139,7 +143,8 @@ fn fill_row(weights: &[u32], costs: &[Pair], dropped: u32, row: &mut [Pair])
     }
 }
 
-// Works a period on the lists, unless no level would be known.
+// Works a period on the lists, unless no level would be known. Not inlined: what a caller does besides keeps its registers.
+#[inline(never)]
 fn work<L: ClaimLaw, R: CapitalRule, P: Penalty>(
     opened: Opened,
     board: &mut [Pair],

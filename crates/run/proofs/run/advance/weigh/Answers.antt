@@ -11,12 +11,12 @@ turn : (c : In-Some) → (length c.loop-weight.yielded < length c.args.weights.n
     × (c.in-Some.weight.now ≡ get_or c.args.weights.now (length c.loop-weight.yielded) 0)
     × (c.in-Some.cost.now ≡ get_or c.args.costs.now (c.args.place + length c.loop-weight.yielded) nil)
 turn c =
-    let from = take (length c.args.costs.now - c.args.place) (drop c.args.place c.args.costs.now) in
+    let from = take ((c.args.place + length c.args.weights.now) - c.args.place) (drop c.args.place c.args.costs.now) in
     let this = zip_turn c.args.weights.now from c.loop-weight.yielded c.into_iter-weight-iterator.result c.loop-weight.weight-iterator
     c.next.new.self c.next.result (search rules) (search rules) c.loop-weight.yielded_by _ c.in-Some.is c.next.ensures.steps in
     let within : c.args.place + length c.args.weights.now ≤ length c.args.costs.now = c.requires.within in
     let below : length c.loop-weight.yielded < length c.args.weights.now = this.0 in
-    let there : length c.loop-weight.yielded < length c.args.costs.now - c.args.place = omega arith in
+    let there : length c.loop-weight.yielded < (c.args.place + length c.args.weights.now) - c.args.place = omega arith in
     (below, this.2 0, this.3 nil ∙ rw (get_or-take, get_or-drop))
 
 -- the sum of either side fits with one more term
@@ -48,11 +48,11 @@ loop-weight-preserved c =
 
 all : (c : In-None) → length c.loop-weight.yielded ≡ length c.args.weights.now
 all c =
-    let from = take (length c.args.costs.now - c.args.place) (drop c.args.place c.args.costs.now) in
+    let from = take ((c.args.place + length c.args.weights.now) - c.args.place) (drop c.args.place c.args.costs.now) in
     let ends = zip_end c.args.weights.now from c.loop-weight.yielded c.into_iter-weight-iterator.result c.loop-weight.weight-iterator
     c.next.new.self c.next.result (search rules) (search rules) c.loop-weight.yielded_by c.in-None.is c.next.ensures.steps in
     let within : c.args.place + length c.args.weights.now ≤ length c.args.costs.now = c.requires.within in
-    omega (arith, ends, length-take (length c.args.costs.now - c.args.place) (drop c.args.place c.args.costs.now), length-drop c.args.place c.args.costs.now)
+    omega (arith, ends, length-take ((c.args.place + length c.args.weights.now) - c.args.place) (drop c.args.place c.args.costs.now), length-drop c.args.place c.args.costs.now)
 
 pub returns : goal.returns
 returns c =
