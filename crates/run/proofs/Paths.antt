@@ -173,6 +173,10 @@ pub length-row_after : (long known : ℕ) (period : Period) (old : List Pair)
 length-row_after long known period old =
     length-padded (known_after long known period) long (pair_at period old) (known-after_le long known period)
 
+pub length-row : (long : ℕ) (periods : List Period) → length (row_with long periods) ≡ long
+length-row long [] = length-replicate long nil
+length-row long (period ∷ later) = length-row_after long (known_with long later) period (row_with long later)
+
 abbrev pub bounds_with : List Period → ℕ → Pair
 bounds_with periods u = record { lower = lower_with periods u; upper = upper_with periods u }
 

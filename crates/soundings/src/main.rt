@@ -18,7 +18,8 @@ mod tests;
 fn walk(reader: &mut Reader<'_>) -> Option<(FeedFault, usize)>
     ensures { Walked (walk_of reader.old) result (walk_of reader.new) }
 {
-    reader.find(Result::is_err)?.err()
+    let (fault, offset) = reader.find(Result::is_err)?.err()?;
+    Some((fault, offset))
 }
 
 // All that the program writes: the fault, if one stopped the walk, and how many whole records there were.

@@ -1,4 +1,5 @@
-use Rattle.std.proofs.Common.{Some, None, of_calls}
+use Rattle.std.proofs.Common.{◌≡◌, Some, None, rules, of_calls}
+use Rattle.std.specs.Result.{result_err}
 use Rattle.soundings.proofs.Finding.{finds}
 use Rattle.soundings.proofs.walk.Goals as goal
 
@@ -8,5 +9,6 @@ returns-in_err-find c =
 
 pub returns : goal.returns
 returns c =
-    rw (← c.err.ensures.value) at
+    let told : result_err c.in_ok-find.field-0 ≡ Some (c.in_ok-fault.fault, c.in_ok-fault.offset) = search rules in
+    rw told at
     (finds _ (λ p x b q e. search of_calls) _ c.find.new.self _ (Some c.in_ok-find.field-0) c.in_ok-find.ensures.ran)
